@@ -1,0 +1,34 @@
+// The tables in the order in which they are judged.
+#[derive(Clone, Copy, PartialEq, Eq, Debug)]
+pub enum Table {
+    Nodes,
+    Entries,
+    Text,
+}
+
+// What is wrong with a row, in the order in which the causes are judged at one row.
+#[derive(Clone, Copy, PartialEq, Eq, Debug)]
+pub enum Cause {
+    Limit,
+    Name,
+    Type,
+    Value,
+    Entries,
+    Size,
+    Nesting,
+}
+
+// Why tables are unsound: the first bad row of the first bad table.
+#[derive(Clone, Copy, PartialEq, Eq, Debug)]
+pub struct TableFault {
+    pub table: Table,
+    pub row: u32,
+    pub cause: Cause,
+}
+
+// How many nodes and entries a document has.
+#[derive(Clone, Copy, PartialEq, Eq, Debug)]
+pub struct Counts {
+    pub nodes: u32,
+    pub entries: u32,
+}

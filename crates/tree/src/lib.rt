@@ -1,0 +1,4 @@
+pub mod handle;
+pub mod span;
+pub mod value;
+pub mod interface;
