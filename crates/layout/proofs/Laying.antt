@@ -115,7 +115,7 @@ pub record Lays (t : Tables) (i to : ℕ) (ss : List Spot) : Type 0 where
   pub parts : (k : ℕ) → i ≤ k → k < to → NodeParts (t .text) (row t k)
   pub there : line t i ≤ length (t .entries) → line t to ≤ length (t .entries)
 
-empty-inside : (t : Tables) (f d i : ℕ) (inner : Nodes) → row t i .below ≡ 0 → rows t f (suc d) (i + 1) (next t i) ≡ Ok inner → inner ≡ nil
+pub empty-inside : (t : Tables) (f d i : ℕ) (inner : Nodes) → row t i .below ≡ 0 → rows t f (suc d) (i + 1) (next t i) ≡ Ok inner → inner ≡ nil
 empty-inside t f d i inner z e =
     let n = rows-none t f (suc d) (i + 1) (next t i) (omega arith) in
     let s : _≡_ {A = Nodes} nil inner = let q = sym n ∙ e in cc in

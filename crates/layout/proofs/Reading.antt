@@ -22,13 +22,14 @@ use Rattle.tree.specs.Document.{Entry, Head, Node, Block, block, no-block, Node
 use Rattle.tree.specs.Going.{Spot, spots, spots-in, spots-of, all-spots, all-entries}
 use Rattle.tree.specs.Outcome.{and-then, over}
 use Rattle.layout.specs.Rows.{Tables, head, picked, perhaps-in-text, value-known}
-use Rattle.layout.specs.Tables.{blank, row, next, line, block-of, rows, judged, entry-cause, entry-rows, limited, read, held, document}
-use Rattle.layout.specs.Layout.{Says, row-says, rows-say, node-says, nodes-say, NodeParts, EntryParts, Laid}
+use Rattle.layout.specs.Tables.{blank, row, next, line, block-of, rows, judged, entry-cause, entry-rows, limited, read, counts-of, checked, held, document}
+use Rattle.layout.specs.Layout.{Says, row-says, rows-say, node-says, nodes-say, NodeParts, EntryParts, Laid, Law, Unique, Exact, Made}
 use Rattle.layout.specs.declared.rows.NodeRow.{NodeRow}
 use Rattle.layout.specs.declared.rows.EntryRow.{EntryRow}
 use Rattle.layout.specs.declared.fault.Table.{Table}
 use Rattle.layout.specs.declared.fault.Cause.{Cause}
 use Rattle.layout.specs.declared.fault.TableFault.{TableFault}
+use Rattle.layout.specs.declared.fault.Counts.{Counts}
 use Rattle.layout.proofs.Steps.{Passed, passed, no-cause, let-through, Fit, rows-none, closed}
 use Rattle.layout.proofs.Laying.{total, total-append, total-is, say-append, says-length, say-length, said, said-at, line-after, picked-length, spots-some, spots-none, Lays, lays}
 
@@ -296,3 +297,29 @@ read-laid t doc l =
         and-then (limited Table.Text 1048576 (length (t .text))) (λ _. Ok doc)))) (limit-kept Table.Entries 65535 (length (t .entries)) (l .few-entries))
     ∙ ap (λ o. and-then o (λ _. and-then (limited Table.Text 1048576 (length (t .text))) (λ _. Ok doc))) (entries-sound t 0 (t .entries) (l .entry-parts) (omega arith))
     ∙ ap (λ o. and-then o (λ _. Ok doc)) (limit-kept Table.Text 1048576 (length (t .text)) (l .short-text))
+
+pub law : Law
+law t doc = (laid t doc, read-laid t doc)
+
+pub unique : (t : Tables) → Unique t
+unique t a b l m = let e = sym (read-laid t a l) ∙ read-laid t b m in cc
+
+pub exact : (t : Tables) (r : Result Counts TableFault) → r ≡ checked t → Exact t r
+exact t r e = go (read t) refl r e
+  where
+    go : (o : Result Nodes TableFault) → read t ≡ o → (r : Result Counts TableFault) → r ≡ over counts-of o → Exact t r
+    go (Ok doc) is (Ok c) h = (doc, laid t doc is, let s : c ≡ counts-of doc = cc in s)
+    go (Ok doc) is (Err x) h = absurd (let z : _≡_ {A = ℕ} 0 1 = cc in omega arith)
+    go (Err x) is (Ok c) h = absurd (let z : _≡_ {A = ℕ} 0 1 = cc in omega arith)
+    go (Err x) is (Err y) h = λ doc l. let q = sym is ∙ read-laid t doc l in let z : _≡_ {A = ℕ} 0 1 = cc in omega arith
+
+pub made : (t : Tables) (doc : Nodes) → doc ≡ document t → Made t doc
+made t doc e = record {
+  is = e;
+  sound = λ d l. e ∙ ap held (read-laid t d l);
+  unsound = λ none. e ∙ go (read t) refl none;
+}
+  where
+    go : (o : Result Nodes TableFault) → read t ≡ o → ((d : Nodes) → Laid t d → ⊥) → held o ≡ nil
+    go (Ok d) is none = absurd (none d (laid t d is))
+    go (Err x) is none = refl

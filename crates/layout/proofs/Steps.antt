@@ -5,7 +5,9 @@ use mathlib.Core.Bool.{Bool, true, false, cond, _&&_, _||_}
 use Prim.Native.Nat.{ℕ, zero, suc, _+_, _≤_, _<_}
 use native.Mathlib.Omega.{arith}
 use lib.Dec.{eqb, leb, ltb}
-use lib.ListN.{length}
+use lib.ListN.{length, drop}
+use native.Mathlib.Numerals.{add-one}
+use Rattle.std.proofs.shelf.Lists.{drop-more, drop-all}
 use Rattle.std.proofs.shelf.Tests.{lt-ltb, le-ltb, le-leb, leb-true, eq-eqb, eqb-true, and-parts, and-from, or-left, or-right, cond-true, cond-false, false≢true, cases-bool}
 use Rattle.std.specs.declared.option.Option.{Option}
 use Rattle.std.specs.declared.option.Option.the-variants.{Some, None}
@@ -14,7 +16,7 @@ use Rattle.std.specs.declared.result.Result.the-variants.{Ok, Err}
 use Rattle.tree.specs.Document.{Nodes, node, nil, cons}
 use Rattle.tree.specs.Outcome.{and-then, over}
 use Rattle.layout.specs.Rows.{Tables, in-text, perhaps-in-text, head}
-use Rattle.layout.specs.Tables.{row, next, line, judged, node-cause, block-of, rows}
+use Rattle.layout.specs.Tables.{row, blank-entry, entry-row, next, line, judged, node-cause, block-of, rows, entry-cause, entry-rows}
 use Rattle.layout.specs.declared.fault.Table.{Table}
 use Rattle.layout.specs.declared.fault.Cause.{Cause}
 use Rattle.layout.specs.declared.fault.TableFault.{TableFault}
@@ -165,12 +167,12 @@ judges-here t d i to e lt is zero enough = absurd (omega arith)
 judges-here t d i to e lt is (suc f) enough =
     ap (λ o. over (λ _. tt) (and-then o (λ _. behind t f d i to))) is ∙ ap (over (λ _. tt)) (sym (rows-some t f d i to lt))
 
-pub judges-in : (t : Tables) (d i to : ℕ) (e : TableFault) → i < to → Ok tt ≡ judged Table.Nodes i (node-cause t d i to) → Judges t (suc d) (i + 1) (next t i) (Err e) → Judges t d i to (Err e)
+pub judges-in : (t : Tables) (d i to : ℕ) (e : TableFault) → i < to → Ok tt ≡ judged Table.Nodes i (node-cause t d i to) → Judges t (d + 1) (i + 1) (next t i) (Err e) → Judges t d i to (Err e)
 judges-in t d i to e lt is inner zero enough = absurd (omega arith)
 judges-in t d i to e lt is inner (suc f) enough =
     let w = fit t d i to (no-cause Table.Nodes i _ _ (sym is)) in
     let u = w .inside in
-    let b = over-err (λ _. tt) (rows t f (suc d) (i + 1) (next t i)) e (inner f (omega arith)) in
+    let b = over-err (λ _. tt) (rows t f (suc d) (i + 1) (next t i)) e (inner f (omega arith) ∙ ap (λ n. over (λ _. tt) (rows t f n (i + 1) (next t i))) (add-one d)) in
     ap (λ o. over (λ _. tt) (and-then o (λ ins. and-then (rows t f d (next t i) to) (λ more. Ok (cons (node (record { number = i }) (head t (row t i)) (block-of (row t i .block) ins)) more))))) (sym b)
     ∙ ap (λ o. over (λ _. tt) (and-then o (λ _. behind t f d i to))) is ∙ ap (over (λ _. tt)) (sym (rows-some t f d i to lt))
 
@@ -178,12 +180,25 @@ over-then : {X Y E : Type 0} (o : Result X E) (g : X → Y) (r : Result (Unit {0
 over-then (Ok x) g r e = e
 over-then (Err x) g r e = e
 
-pub judges-on : (t : Tables) (d i to : ℕ) (r : Result (Unit {0}) TableFault) → i < to → Ok tt ≡ judged Table.Nodes i (node-cause t d i to) → Judges t (suc d) (i + 1) (next t i) (Ok tt) → Judges t d (next t i) to r → Judges t d i to r
+pub judges-on : (t : Tables) (d i to : ℕ) (r : Result (Unit {0}) TableFault) → i < to → Ok tt ≡ judged Table.Nodes i (node-cause t d i to) → Judges t (d + 1) (i + 1) (next t i) (Ok tt) → Judges t d (next t i) to r → Judges t d i to r
 judges-on t d i to r lt is inner rest zero enough = absurd (omega arith)
 judges-on t d i to r lt is inner rest (suc f) enough =
     let w = fit t d i to (no-cause Table.Nodes i _ _ (sym is)) in
     let u = w .inside in
-    let b = over-ok (λ _. tt) (rows t f (suc d) (i + 1) (next t i)) tt (inner f (omega arith)) in
+    let b = over-ok (λ _. tt) (rows t f (suc d) (i + 1) (next t i)) tt (inner f (omega arith) ∙ ap (λ n. over (λ _. tt) (rows t f n (i + 1) (next t i))) (add-one d)) in
     over-then (rows t f d (next t i) to) (λ more. cons (node (record { number = i }) (head t (row t i)) (block-of (row t i .block) (b .value))) more) r (rest f (omega arith))
     ∙ ap (λ o. over (λ _. tt) (and-then o (λ ins. and-then (rows t f d (next t i) to) (λ more. Ok (cons (node (record { number = i }) (head t (row t i)) (block-of (row t i .block) ins)) more))))) (sym (b .is))
     ∙ ap (λ o. over (λ _. tt) (and-then o (λ _. behind t f d i to))) is ∙ ap (over (λ _. tt)) (sym (rows-some t f d i to lt))
+
+-- the same of entry rows: at row k, and behind it
+pub entries-here : (t : Tables) (k : ℕ) (e : TableFault) → k < length (t .entries) → Err e ≡ judged Table.Entries k (entry-cause t k (entry-row t k)) → Err e ≡ entry-rows t k (drop k (t .entries))
+entries-here t k e lt is =
+    ap (λ o. and-then o (λ _. entry-rows t (suc k) (drop (k + 1) (t .entries)))) is ∙ ap (entry-rows t k) (sym (drop-more (t .entries) k blank-entry lt))
+
+pub entries-on : (t : Tables) (k : ℕ) → k < length (t .entries) → Ok tt ≡ judged Table.Entries k (entry-cause t k (entry-row t k)) → entry-rows t (k + 1) (drop (k + 1) (t .entries)) ≡ entry-rows t k (drop k (t .entries))
+entries-on t k lt is =
+    ap (λ n. entry-rows t n (drop (k + 1) (t .entries))) (add-one k)
+    ∙ ap (λ o. and-then o (λ _. entry-rows t (suc k) (drop (k + 1) (t .entries)))) is ∙ ap (entry-rows t k) (sym (drop-more (t .entries) k blank-entry lt))
+
+pub entries-none : (t : Tables) (k : ℕ) → length (t .entries) ≤ k → Ok tt ≡ entry-rows t k (drop k (t .entries))
+entries-none t k ge = ap (entry-rows t k) (sym (drop-all k (t .entries) ge))

@@ -5,14 +5,17 @@ use mathlib.Core.List.{List, [], _∷_}
 use Prim.Native.Nat.{ℕ, suc, _+_, _≤_}
 use lib.ListN.{length}
 use Rattle.std.specs.shelf.Lists.{All}
-use Rattle.std.specs.declared.result.Result.the-variants.{Ok}
+use Rattle.std.specs.declared.result.Result.{Result}
+use Rattle.std.specs.declared.result.Result.the-variants.{Ok, Err}
 use Rattle.tree.specs.declared.handle.NodeHandle.{NodeHandle}
-use Rattle.tree.specs.Document.{Head, Node, Nodes, handle-in, head-in, block-in, is-block}
+use Rattle.tree.specs.Document.{Head, Node, Nodes, nil, handle-in, head-in, block-in, is-block}
 use Rattle.tree.specs.Going.{Spot, spots-in, all-spots, all-entries}
 use Rattle.layout.specs.Rows.{Tables, in-text, perhaps-in-text, value-known, head}
-use Rattle.layout.specs.Tables.{read}
+use Rattle.layout.specs.Tables.{read, counts-of, document}
 use Rattle.layout.specs.declared.rows.NodeRow.{NodeRow}
 use Rattle.layout.specs.declared.rows.EntryRow.{EntryRow}
+use Rattle.layout.specs.declared.fault.TableFault.{TableFault}
+use Rattle.layout.specs.declared.fault.Counts.{Counts}
 
 -- what a node row says, with bytes in the place of parts of the text, and entries in the place of entry rows
 pub record Says : Type 0 where
@@ -64,3 +67,18 @@ pub record Laid (t : Tables) (doc : Nodes) : Type 0 where
 -- what is read from tables is the document that they lay out, and there is no other
 abbrev pub Law : Type 0
 Law = (t : Tables) (doc : Nodes) → (read t ≡ Ok doc → Laid t doc) × (Laid t doc → read t ≡ Ok doc)
+
+-- tables lay out at most one document
+abbrev pub Unique : Tables → Type 0
+Unique t = (a b : Nodes) → Laid t a → Laid t b → a ≡ b
+
+-- tables are accepted, with the counts of their document, exactly if they lay one out
+abbrev pub Exact : Tables → Result Counts TableFault → Type 0
+Exact t (Ok c) = (doc : Nodes) × Laid t doc × (c ≡ counts-of doc)
+Exact t (Err e) = (doc : Nodes) → Laid t doc → ⊥
+
+-- what is made of tables is the document that they lay out, or the empty one
+pub record Made (t : Tables) (doc : Nodes) : Type 0 where
+  pub is : doc ≡ document t
+  pub sound : (laid : Nodes) → Laid t laid → doc ≡ laid
+  pub unsound : ((laid : Nodes) → Laid t laid → ⊥) → doc ≡ nil

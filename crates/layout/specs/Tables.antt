@@ -14,6 +14,7 @@ use Rattle.tree.specs.Outcome.{and-then, over}
 use Rattle.layout.specs.Rows.{Tables, in-text, perhaps-in-text, value-known, head}
 use Rattle.layout.specs.declared.rows.NodeRow.{NodeRow}
 use Rattle.layout.specs.declared.rows.EntryRow.{EntryRow}
+use Rattle.layout.specs.declared.rows.ValueRow.the-variants.{Null}
 use Rattle.layout.specs.declared.fault.Table.{Table}
 use Rattle.layout.specs.declared.fault.Cause.{Cause}
 use Rattle.layout.specs.declared.fault.TableFault.{TableFault}
@@ -33,6 +34,13 @@ blank = record {
 -- the node row i
 abbrev pub row : Tables → ℕ → NodeRow
 row t i = getD (t .nodes) i blank
+
+abbrev pub blank-entry : EntryRow
+blank-entry = record { name = None; ty = None; value = Null; span = record { start = 0; length = 0 } }
+
+-- the entry row k
+abbrev pub entry-row : Tables → ℕ → EntryRow
+entry-row t k = getD (t .entries) k blank-entry
 
 -- the row behind the last row below the row i
 abbrev pub next : Tables → ℕ → ℕ
