@@ -7,11 +7,11 @@ use lib.Dec.{eqb}
 use Rattle.std.specs.Options.{mapped}
 use Rattle.std.specs.declared.option.Option.{Option}
 use Rattle.std.specs.declared.option.Option.the-variants.{Some, None}
-use Rattle.tree.specs.Document.{handle-in}
-use Rattle.tree.specs.Going.{Spot, EntrySpot, find-spot, find-entry}
+use Rattle.tree.specs.Document.{Nodes, nil, cons, handle-in}
+use Rattle.tree.specs.Going.{Spot, EntrySpot, spots, find-spot, find-entry, first-node}
 use Rattle.tree.specs.Limits.{node-numbers, entry-numbers}
-use Rattle.index.specs.Keys.{keys, lookup}
-use Rattle.index.specs.Links.{link, entry-link, links, entry-links}
+use Rattle.index.specs.Keys.{keys, first-key, lookup}
+use Rattle.index.specs.Links.{link, entry-link, links, entry-links, links-of}
 
 mapped-cond : {X Y : Type 0} (f : X → Y) (b : Bool) (x : X) (o : Option X) (q : Option Y) → q ≡ mapped f o → cond b (Some (f x)) q ≡ mapped f (cond b (Some x) o)
 mapped-cond f true x o q e = refl
@@ -32,3 +32,9 @@ link-keys (s ∷ ss) = ap (λ ks. handle-in (s .self) .number ∷ ks) (link-keys
 pub entry-link-keys : (ss : List EntrySpot) → keys (entry-links ss) ≡ entry-numbers ss
 entry-link-keys [] = refl
 entry-link-keys (s ∷ ss) = ap (λ ks. s .self .handle .number ∷ ks) (entry-link-keys ss)
+
+-- the first link is the first node's
+pub first-linked : (doc : Nodes) → mapped (λ n. record { number = n }) (first-key (links-of doc)) ≡ first-node doc
+unfolding spots
+first-linked nil = refl
+first-linked (cons n ns) = refl

@@ -69,9 +69,9 @@ pub missed : {V : Type 0} (xs : List (Keyed V)) (key low high : ℕ) → Between
 missed xs key low high b ge =
     let long = keys-length xs in
     nowhere xs key (λ k lt same. ⊎-elim
-        (λ (less : k < low). let g = b .below k less in omega arith)
-        (λ more. let g = b .above k (omega arith) (omega arith) in omega arith)
-        (cases-lt k low))
+    (λ (less : k < low). let g = b .below k less in omega arith)
+    (λ more. let g = b .above k (omega arith) (omega arith) in omega arith)
+    (cases-lt k low))
 
 -- the keys before n rise
 abbrev pub RisingTo : List ℕ → ℕ → Type 0
@@ -80,8 +80,8 @@ RisingTo ks n = (i j : ℕ) → i < j → j < n → getD ks i 0 < getD ks j 0
 pub rising-more : (ks : List ℕ) (n : ℕ) → 1 ≤ n → RisingTo ks n → getD ks (n - 1) 0 < getD ks n 0 → RisingTo ks (n + 1)
 rising-more ks n pos r lt i j ij jn = ⊎-elim
     (λ (same : j ≡ n). ⊎-elim
-        (λ (last : i ≡ n - 1). subst (λ k. getD ks i 0 < getD ks k 0) (sym same) (subst (λ k. getD ks k 0 < getD ks n 0) (sym last) lt))
-        (λ before. let o = r i (n - 1) (omega arith) (omega arith) in subst (λ k. getD ks i 0 < getD ks k 0) (sym same) (omega arith))
-        (cases-eq i (n - 1)))
+    (λ (last : i ≡ n - 1). subst (λ k. getD ks i 0 < getD ks k 0) (sym same) (subst (λ k. getD ks k 0 < getD ks n 0) (sym last) lt))
+    (λ before. let o = r i (n - 1) (omega arith) (omega arith) in subst (λ k. getD ks i 0 < getD ks k 0) (sym same) (omega arith))
+    (cases-eq i (n - 1)))
     (λ other. r i j ij (omega arith))
     (cases-eq j n)

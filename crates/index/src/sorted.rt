@@ -3,7 +3,7 @@ ghost use mathlib.Core.Path.{_≡_};
 ghost use Rattle.std.specs.Of.Vec.{vec-items};
 ghost use Rattle.std.specs.Options.{Cases as BySome};
 ghost use Rattle.tree.specs.Numbers.{Rising};
-ghost use Rattle.index.specs.Keys.{keys, lookup};
+ghost use Rattle.index.specs.Keys.{keys, first-key, lookup};
 use super::keyed::Keyed;
 
 #[derive(Drop)]
@@ -25,6 +25,17 @@ impl<V: Copy> Index<V> {
             i += 1;
         }
         Some(Index { items })
+    }
+
+    // The lowest number, if there is one.
+    pub fn first(&self) -> Option<u32>
+        ensures { λ r. ⌜ r ≡ first-key (vec-items (now (self .entry) .items)) ⌝ }
+    {
+        if self.items.is_empty() {
+            None
+        } else {
+            Some(self.items[0].key)
+        }
     }
 
     // The value under the number `key`, if there is one.

@@ -59,9 +59,9 @@ first-is : (t : Tables) (f d i to : ℕ) (ns : Nodes) → to ≤ i + f → rows 
 first-is t f d i to ns enough e = ⊎-elim
     (λ lt. some f enough e lt)
     (λ ge.
-        let q = sym (rows-none t f d i to ge) ∙ e in
-        let s : _≡_ {A = Nodes} nil ns = cc in
-        ap (λ m. first (listed m)) (sym s) ∙ sym (cond-false (ltb i to) _ _ (le-ltb i to ge)))
+    let q = sym (rows-none t f d i to ge) ∙ e in
+    let s : _≡_ {A = Nodes} nil ns = cc in
+    ap (λ m. first (listed m)) (sym s) ∙ sym (cond-false (ltb i to) _ _ (le-ltb i to ge)))
     (cases-lt i to)
   where
     some : (f : ℕ) → to ≤ i + f → rows t f d i to ≡ Ok ns → i < to → first (listed ns) ≡ first-row i to
@@ -87,44 +87,47 @@ links-append [] ys = refl
 links-append (x ∷ xs) ys = ap (λ l. record { key = handle-in (x .self) .number; value = link x } ∷ l) (links-append xs ys)
 
 -- with the links xs before, ys are there behind the rows from i up to to, which p holds
-abbrev pub Fills : Tables → ℕ → ℕ → ℕ → Option NodeHandle → List (Keyed NodeLink) → List (Keyed NodeLink) → Type 0
-Fills t d i to p xs ys = (f : ℕ) (before : List Node) (ns : Nodes) → to ≤ i + f → rows t f d i to ≡ Ok ns → ys ≡ xs ++ links (spots d p before ns)
+abbrev pub Fills : Tables → ℕ → ℕ → Option NodeHandle → List (Keyed NodeLink) → List (Keyed NodeLink) → Type 0
+Fills t i to p xs ys = (d f : ℕ) (before : List Node) (ns : Nodes) → to ≤ i + f → rows t f d i to ≡ Ok ns → ys ≡ xs ++ links (spots d p before ns)
 
 -- the rows from i up to to are sound
-pub record Whole (t : Tables) (d i to : ℕ) : Type 0 where
+pub record Whole (t : Tables) (i to : ℕ) : Type 0 where
+  pub nesting : ℕ
   pub fuel : ℕ
   pub nodes : Nodes
   pub enough : to ≤ i + fuel
-  pub is : rows t fuel d i to ≡ Ok nodes
+  pub is : rows t fuel nesting i to ≡ Ok nodes
 
-pub record Parts (t : Tables) (d i to : ℕ) : Type 0 where
-  pub fits : Fit t d i to
-  pub inner : Whole t (suc d) (i + 1) (next t i)
-  pub rest : Whole t d (next t i) to
+pub record Parts (t : Tables) (i to : ℕ) : Type 0 where
+  pub nesting : ℕ
+  pub fits : Fit t nesting i to
+  pub inner : Whole t (i + 1) (next t i)
+  pub rest : Whole t (next t i) to
 
-pub parts-of : (t : Tables) (d i to : ℕ) → i < to → Whole t d i to → Parts t d i to
-parts-of t d i to lt w = go (w .fuel) (w .enough) (w .is)
+pub parts-of : (t : Tables) (i to : ℕ) → i < to → Whole t i to → Parts t i to
+parts-of t i to lt w = go (w .fuel) (w .enough) (w .is)
   where
-    go : (f : ℕ) → to ≤ i + f → rows t f d i to ≡ Ok (w .nodes) → Parts t d i to
+    go : (f : ℕ) → to ≤ i + f → rows t f (w .nesting) i to ≡ Ok (w .nodes) → Parts t i to
     go zero enough e = absurd (omega arith)
     go (suc f) enough e =
-        let o = opened t f d i to (w .nodes) lt enough e in
+        let o = opened t f (w .nesting) i to (w .nodes) lt enough e in
         record {
+          nesting = w .nesting;
           fits = o .fits;
-          inner = record { fuel = f; nodes = o .inner; enough = o .inner-long; is = o .inner-is };
-          rest = record { fuel = f; nodes = o .rest; enough = o .rest-long; is = o .rest-is };
+          inner = record { nesting = suc (w .nesting); fuel = f; nodes = o .inner; enough = o .inner-long; is = o .inner-is };
+          rest = record { nesting = w .nesting; fuel = f; nodes = o .rest; enough = o .rest-long; is = o .rest-is };
         }
 
-pub fills-none : (t : Tables) (d i to : ℕ) (p : Option NodeHandle) (xs : List (Keyed NodeLink)) → to ≤ i → Fills t d i to p xs xs
-fills-none t d i to p xs ge f before ns enough e =
+pub fills-none : (t : Tables) (i to : ℕ) (p : Option NodeHandle) (xs : List (Keyed NodeLink)) → to ≤ i → Fills t i to p xs xs
+fills-none t i to p xs ge d f before ns enough e =
     let q = sym (rows-none t f d i to ge) ∙ e in
     let s : _≡_ {A = Nodes} nil ns = cc in
     sym (append-nil xs) ∙ ap (λ l. xs ++ links l) (sym (spots-none d p before)) ∙ ap (λ m. xs ++ links (spots d p before m)) s
 
-pub fills-on : (t : Tables) (d i to : ℕ) (p : Option NodeHandle) (xs one two ys : List (Keyed NodeLink)) → i < to → one ≡ xs ++ row-link t i to p ∷ []
-    → Fills t (suc d) (i + 1) (next t i) (Some (node-number i)) one two → Fills t d (next t i) to p two ys → Fills t d i to p xs ys
-fills-on t d i to p xs one two ys lt e₁ inner rest zero before ns enough e = absurd (omega arith)
-fills-on t d i to p xs one two ys lt e₁ inner rest (suc f) before ns enough e =
+pub fills-on : (t : Tables) (i to : ℕ) (p : Option NodeHandle) (xs one two ys : List (Keyed NodeLink)) → i < to → one ≡ xs ++ row-link t i to p ∷ []
+    → Fills t (i + 1) (next t i) (Some (node-number i)) one two → Fills t (next t i) to p two ys → Fills t i to p xs ys
+fills-on t i to p xs one two ys lt e₁ inner rest d zero before ns enough e = absurd (omega arith)
+fills-on t i to p xs one two ys lt e₁ inner rest d (suc f) before ns enough e =
     let o = opened t f d i to ns lt enough e in
     let r = row t i in
     let hd = head t r in
@@ -133,14 +136,14 @@ fills-on t d i to p xs one two ys lt e₁ inner rest (suc f) before ns enough e 
     let A = spots (suc d) (Some (node-number i)) [] (o .inner) in
     let B = spots d p (before ++ n ∷ []) (o .rest) in
     let all : spots d p before ns ≡ s ∷ (A ++ B) =
-        ap (spots d p before) (sym (o .is)) ∙ spots-some d p before n (o .rest)
-        ∙ ap (λ l. s ∷ (l ++ B)) (below-is d (node-number i) hd (r .block) (o .inner) (λ b. empty-inside t f d i (o .inner) (o .fits .bare b) (o .inner-is))) in
+    ap (spots d p before) (sym (o .is)) ∙ spots-some d p before n (o .rest)
+    ∙ ap (λ l. s ∷ (l ++ B)) (below-is d (node-number i) hd (r .block) (o .inner) (λ b. empty-inside t f d i (o .inner) (o .fits .bare b) (o .inner-is))) in
     let q₁ = first-is t f d (next t i) to (o .rest) (o .rest-long) (o .rest-is) in
     let q₂ = block-first (r .block) (o .inner) _ (first-is t f (suc d) (i + 1) (next t i) (o .inner) (o .inner-long) (o .inner-is)) in
     let q₃ = picked-first t (r .«entries_start») (r .«entries_count») (o .fits .there) in
     let same : record { key = i; value = link s } ≡ row-link t i to p = λ j. record { key = i; value = record { parent = p; next = q₁ j; block = q₂ j; entry = q₃ j } } in
-    rest f (before ++ n ∷ []) (o .rest) (o .rest-long) (o .rest-is)
-    ∙ ap (λ l. l ++ links B) (inner f [] (o .inner) (o .inner-long) (o .inner-is))
+    rest d f (before ++ n ∷ []) (o .rest) (o .rest-long) (o .rest-is)
+    ∙ ap (λ l. l ++ links B) (inner (suc d) f [] (o .inner) (o .inner-long) (o .inner-is))
     ∙ ap (λ l. (l ++ links A) ++ links B) e₁
     ∙ simp append-assoc refl
     ∙ (λ j. xs ++ (sym same j ∷ sym (links-append A B) j))
@@ -195,8 +198,8 @@ picked-more t h k to xs one lt within e =
     let E = entry (t .text) k (getD (t .entries) k blank-entry) in
     let rest = picked t (k + 1) c in
     let front : picked t k (to - k) ≡ E ∷ rest =
-        (λ j. say.entries-from (t .text) k (take (size j) (drop-more (t .entries) k blank-entry (omega arith) j)))
-        ∙ ap (λ n. E ∷ say.entries-from (t .text) n (take c (drop (k + 1) (t .entries)))) (sym (add-one k)) in
+    (λ j. say.entries-from (t .text) k (take (size j) (drop-more (t .entries) k blank-entry (omega arith) j)))
+    ∙ ap (λ n. E ∷ say.entries-from (t .text) n (take c (drop (k + 1) (t .entries)))) (sym (add-one k)) in
     let sum : k + 1 + c ≡ to = omega arith in
     let after : first-of rest ≡ first-entry-row (k + 1) to = picked-first t (k + 1) c (omega arith) ∙ ap (first-entry-row (k + 1)) sum in
     let s : EntrySpot = record { self = E; after = rest; node = h } in
@@ -209,3 +212,7 @@ pub picked-end : (t : Tables) (h : NodeHandle) (k to : ℕ) (xs : List (Keyed En
 picked-end t h k to xs ge =
     let z : to - k ≡ 0 = omega arith in
     ap (λ n. xs ++ entry-links (entries-from h (picked t k n))) z ∙ append-nil xs
+
+-- each node row's entries are there
+abbrev pub Rooms : Tables → Type 0
+Rooms t = (i : ℕ) → i < length (t .nodes) → row t i .«entries_start» + row t i .«entries_count» ≤ length (t .entries)

@@ -114,6 +114,7 @@ pub record Lays (t : Tables) (i to : ℕ) (ss : List Spot) : Type 0 where
   pub nesting : All (λ s. s .nesting ≤ 32) ss
   pub parts : (k : ℕ) → i ≤ k → k < to → NodeParts (t .text) (row t k)
   pub there : line t i ≤ length (t .entries) → line t to ≤ length (t .entries)
+  pub rooms : (k : ℕ) → i ≤ k → k < to → row t k .«entries_start» + row t k .«entries_count» ≤ length (t .entries)
 
 pub empty-inside : (t : Tables) (f d i : ℕ) (inner : Nodes) → row t i .below ≡ 0 → rows t f (suc d) (i + 1) (next t i) ≡ Ok inner → inner ≡ nil
 empty-inside t f d i inner z e =
@@ -141,7 +142,7 @@ lays-row t d i to p before inner rest lt within w bare a b =
     let e₃ : line t (next t i) ≡ line t i + length (head t r .entries) + total A = omega (arith, a .lines) in
     let below : length (spots-in d n) ≡ r .below = ap length (below-is d h (head t r) (r .block) inner bare) ∙ omega (arith, a .count) in
     let same : row-says t i r ≡ node-says (line t i) s =
-        λ j. record { handle = h; head = head t r; start = e₁ j; count = sym c j; block = sym (block-is (r .block) inner) j; below = sym below j } in
+    λ j. record { handle = h; head = head t r; start = e₁ j; count = sym c j; block = sym (block-is (r .block) inner) j; below = sym below j } in
     let long = length-append A B in
     let sums = total-append A B in
     subst (Lays t i to) (sym all) (record {
@@ -158,11 +159,18 @@ lays-row t d i to p before inner rest lt within w bare a b =
       parts = λ k ge below-to. ⊎-elim
           (λ (first : k < i + 1). let e : i ≡ k = omega arith in subst (λ j. NodeParts (t .text) (row t j)) e (record { name = w .name; type = w .type }))
           (λ more. ⊎-elim
-              (λ (in-block : k < next t i). a .parts k more in-block)
-              (λ later. b .parts k later below-to)
-              (cases-lt k (next t i)))
+          (λ (in-block : k < next t i). a .parts k more in-block)
+          (λ later. b .parts k later below-to)
+          (cases-lt k (next t i)))
           (cases-lt k (i + 1));
       there = λ _. b .there (a .there (subst (λ m. m ≤ length (t .entries)) (sym after) (w .there)));
+      rooms = λ k ge below-to. ⊎-elim
+          (λ (first : k < i + 1). let e : i ≡ k = omega arith in subst (λ j. row t j .«entries_start» + row t j .«entries_count» ≤ length (t .entries)) e (w .there))
+          (λ more. ⊎-elim
+          (λ (in-block : k < next t i). a .rooms k more in-block)
+          (λ later. b .rooms k later below-to)
+          (cases-lt k (next t i)))
+          (cases-lt k (i + 1));
     })
 
 -- no rows
@@ -178,19 +186,20 @@ lays-none t f d i to p before ns le ge e =
       nesting = tt;
       parts = λ k a b. absurd (omega arith);
       there = λ h. subst (λ k. line t k ≤ length (t .entries)) same h;
+      rooms = λ k a b. absurd (omega arith);
     })
 
 pub lays : (t : Tables) (f d i to : ℕ) (p : Option NodeHandle) (before : List Node) (ns : Nodes) → i ≤ to → to ≤ length (t .nodes) → to ≤ i + f → rows t f d i to ≡ Ok ns → Lays t i to (spots d p before ns)
 lays t zero d i to p before ns le within enough e = lays-none t zero d i to p before ns le (omega arith) e
 lays t (suc f) d i to p before ns le within enough e = ⊎-elim
     (λ lt.
-        let o = opened t f d i to ns lt enough e in
-        let u = o .fits .inside in
-        let v = o .inner-long in
-        let w = o .rest-long in
-        subst (λ m. Lays t i to (spots d p before m)) (o .is)
-        (lays-row t d i to p before (o .inner) (o .rest) lt within (o .fits) (λ b. empty-inside t f d i (o .inner) (o .fits .bare b) (o .inner-is))
-        (lays t f (suc d) (i + 1) (next t i) (Some (record { number = i })) [] (o .inner) (omega arith) (omega arith) (omega arith) (o .inner-is))
-        (lays t f d (next t i) to p _ (o .rest) (omega arith) within (omega arith) (o .rest-is))))
+    let o = opened t f d i to ns lt enough e in
+    let u = o .fits .inside in
+    let v = o .inner-long in
+    let w = o .rest-long in
+    subst (λ m. Lays t i to (spots d p before m)) (o .is)
+    (lays-row t d i to p before (o .inner) (o .rest) lt within (o .fits) (λ b. empty-inside t f d i (o .inner) (o .fits .bare b) (o .inner-is))
+    (lays t f (suc d) (i + 1) (next t i) (Some (record { number = i })) [] (o .inner) (omega arith) (omega arith) (omega arith) (o .inner-is))
+    (lays t f d (next t i) to p _ (o .rest) (omega arith) within (omega arith) (o .rest-is))))
     (λ ge. lays-none t (suc f) d i to p before ns le ge e)
     (cases-lt i to)

@@ -5,3 +5,5 @@ pub mod Placed
 pub mod Within
 pub mod Filling
 pub mod Checking
+pub mod Making
+pub mod Answering

@@ -101,12 +101,13 @@ nodes-stand t i k (r ∷ rs) (s ∷ ss) l e =
     let tail : rows-say t (suc i) rs ≡ nodes-say (k + length (head-in (s .self) .entries)) ss = cc in
     let n : i ≡ handle-in (s .self) .number = ap (λ (x : Says). x .handle .number) first in
     let g = l .long in
-    let here = l .at 0 ∙ ap (row t) (add-zero i) in
-    ( record {
+    let here = l .at 0 ∙ ap (row t) (add-zero i) in (
+      record {
         inside = omega arith;
         head = sym (ap (λ (x : Says). x .head) first) ∙ ap (head t) (here ∙ ap (row t) n);
-      }
-    , nodes-stand t (suc i) _ rs ss (last-more t i r rs l) tail)
+      },
+      nodes-stand t (suc i) _ rs ss (last-more t i r rs l) tail,
+    )
 
 pub node-stands : (t : Tables) (doc : Nodes) → Laid t doc → All (NodeStands t) (all-spots doc)
 node-stands t doc l = nodes-stand t 0 0 (t .nodes) (all-spots doc) (record { long = zero-add _; at = λ k. ap (row t) (sym (zero-add k)) }) (l .nodes)
@@ -119,15 +120,16 @@ pub record Cut (t : Tables) (k : ℕ) (es : List EntryRow) : Type 0 where
 entries-stand : (t : Tables) (h : NodeHandle) (k : ℕ) (es : List EntryRow) → Cut t k es → All (λ s. EntryStands t (s .self)) (entries-from h (say.entries-from (t .text) k es))
 entries-stand t h k [] c = tt
 entries-stand t h k (e ∷ es) c =
-    let g = c .long in
-    ( record {
+    let g = c .long in (
+      record {
         inside = omega arith;
         is = ap (entry (t .text) k) (c .at 0 (omega arith) ∙ ap (entry-row t) (add-zero k));
-      }
-    , entries-stand t h (suc k) es (record {
+      },
+      entries-stand t h (suc k) es (record {
         long = omega arith;
         at = λ j lt. let f : k + suc j ≡ suc k + j = omega arith in c .at (suc j) (omega arith) ∙ ap (entry-row t) f;
-      }))
+      }),
+    )
 
 short-take : {X : Type 0} (c : ℕ) (xs : List X) → (length (take c xs) ≤ length xs) × (length (take c xs) ≤ c)
 short-take zero xs = (omega arith, omega arith)

@@ -77,9 +77,9 @@ laid t doc e =
     let s = sound-entries t 0 (t .entries) _ (p₄ .was) in
     let there = l .there (omega arith) in
     let all : length (t .entries) ≤ line t n = ⊎-elim
-        (λ (some : 0 < length (t .entries)). let q = s .taken some in omega arith)
-        (λ none. omega arith)
-        (cases-lt 0 (length (t .entries))) in
+    (λ (some : 0 < length (t .entries)). let q = s .taken some in omega arith)
+    (λ none. omega arith)
+    (cases-lt 0 (length (t .entries))) in
     record {
       nodes = l .says ∙ ap (λ x. nodes-say 0 (all-spots doc) ++ x) (drop-all n (said t) (let q = says-length t 0 (t .nodes) in omega arith)) ∙ append-nil _;
       entries = total-is (all-spots doc) ∙ omega (arith, l .lines);
@@ -136,13 +136,13 @@ split t d i to s A B deep inner-is h =
     let first : row-says t i r ≡ node-says k s = cc in
     let tail : drop (i + 1) (said t) ≡ nodes-say (k + c) (A ++ B) ++ R = cc in
     let tails : drop (i + 1) (said t) ≡ nodes-say (k + c) A ++ (nodes-say (k + c + total A) B ++ R) =
-        tail ∙ ap (λ l. l ++ R) (say-append (k + c) A B) ∙ append-assoc (nodes-say (k + c) A) (nodes-say (k + c + total A) B) R in
+    tail ∙ ap (λ l. l ++ R) (say-append (k + c) A B) ∙ append-assoc (nodes-say (k + c) A) (nodes-say (k + c + total A) B) R in
     let start : r .«entries_start» ≡ k = ap (λ (x : Says). x .start) first in
     let counted : r .«entries_count» ≡ c = ap (λ (x : Says). x .count) first in
     let below : r .below ≡ length A = ap (λ (x : Says). x .below) first ∙ ap (λ m. length (spots-in m (s .self))) deep ∙ ap length inner-is in
     let after : line t (i + 1) ≡ k + c = line-after t i ∙ omega arith in
     let behind : drop (next t i) (said t) ≡ nodes-say (k + c + total A) B ++ R =
-        sym (drop-drop (r .below) (i + 1) (said t)) ∙ ap (drop (r .below)) tails ∙ drop-at (nodes-say (k + c) A) _ (r .below) (say-length (k + c) A ∙ sym below) in
+    sym (drop-drop (r .below) (i + 1) (said t)) ∙ ap (drop (r .below)) tails ∙ drop-at (nodes-say (k + c) A) _ (r .below) (say-length (k + c) A ∙ sym below) in
     record {
       less = omega arith;
       handle = ap (λ (x : Says). x .handle) first;
@@ -260,10 +260,10 @@ entries-sound : (t : Tables) (k : ℕ) (es : List EntryRow) → All (EntryParts 
 entries-sound t k [] a l = refl
 entries-sound t k (e ∷ es) a l =
     let none : entry-cause t k e ≡ None =
-        cond-true (perhaps-in-text (t .text) (e .name)) _ _ (a .0 .name)
-        ∙ cond-true (perhaps-in-text (t .text) (e .ty)) _ _ (a .0 .type)
-        ∙ cond-true (value-known (t .text) (e .value)) _ _ (a .0 .value)
-        ∙ cond-true (ltb k (line t (length (t .nodes)))) _ _ (lt-ltb k _ (omega arith)) in
+    cond-true (perhaps-in-text (t .text) (e .name)) _ _ (a .0 .name)
+    ∙ cond-true (perhaps-in-text (t .text) (e .ty)) _ _ (a .0 .type)
+    ∙ cond-true (value-known (t .text) (e .value)) _ _ (a .0 .value)
+    ∙ cond-true (ltb k (line t (length (t .nodes)))) _ _ (lt-ltb k _ (omega arith)) in
     ap (λ o. and-then (judged Table.Entries k o) (λ _. entry-rows t (suc k) es)) none ∙ entries-sound t (suc k) es (a .1) (omega arith)
 
 limit-kept : (table : Table) (most n : ℕ) → n ≤ most → limited table most n ≡ Ok tt
@@ -284,17 +284,17 @@ read-laid t doc l =
     }) in
     let lines = lays t n 1 0 n None [] doc (omega arith) (omega arith) (omega arith) is .lines in
     ap (λ o. and-then o (λ _.
-        and-then (rows t n 1 0 n) (λ ns.
-        and-then (limited Table.Entries 65535 (length (t .entries))) (λ _.
-        and-then (entry-rows t 0 (t .entries)) (λ _.
-        and-then (limited Table.Text 1048576 (length (t .text))) (λ _. Ok ns)))))) (limit-kept Table.Nodes 65535 n (l .few-nodes))
+    and-then (rows t n 1 0 n) (λ ns.
+    and-then (limited Table.Entries 65535 (length (t .entries))) (λ _.
+    and-then (entry-rows t 0 (t .entries)) (λ _.
+    and-then (limited Table.Text 1048576 (length (t .text))) (λ _. Ok ns)))))) (limit-kept Table.Nodes 65535 n (l .few-nodes))
     ∙ ap (λ o. and-then o (λ ns.
-        and-then (limited Table.Entries 65535 (length (t .entries))) (λ _.
-        and-then (entry-rows t 0 (t .entries)) (λ _.
-        and-then (limited Table.Text 1048576 (length (t .text))) (λ _. Ok ns))))) is
+    and-then (limited Table.Entries 65535 (length (t .entries))) (λ _.
+    and-then (entry-rows t 0 (t .entries)) (λ _.
+    and-then (limited Table.Text 1048576 (length (t .text))) (λ _. Ok ns))))) is
     ∙ ap (λ o. and-then o (λ _.
-        and-then (entry-rows t 0 (t .entries)) (λ _.
-        and-then (limited Table.Text 1048576 (length (t .text))) (λ _. Ok doc)))) (limit-kept Table.Entries 65535 (length (t .entries)) (l .few-entries))
+    and-then (entry-rows t 0 (t .entries)) (λ _.
+    and-then (limited Table.Text 1048576 (length (t .text))) (λ _. Ok doc)))) (limit-kept Table.Entries 65535 (length (t .entries)) (l .few-entries))
     ∙ ap (λ o. and-then o (λ _. and-then (limited Table.Text 1048576 (length (t .text))) (λ _. Ok doc))) (entries-sound t 0 (t .entries) (l .entry-parts) (omega arith))
     ∙ ap (λ o. and-then o (λ _. Ok doc)) (limit-kept Table.Text 1048576 (length (t .text)) (l .short-text))
 

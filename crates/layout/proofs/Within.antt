@@ -10,7 +10,7 @@ use lib.ListN.{length, getD, take, drop, length-drop}
 use Rattle.std.specs.shelf.Lists.{All}
 use Rattle.std.proofs.shelf.Elements.{all-getD, all-from-getD, all-take, all-drop}
 use Rattle.std.proofs.shelf.Tests.{and-parts, and-from, ltb-true, lt-ltb, leb-true, false≢true}
-use Rattle.std.proofs.shelf.Lists.{length-take-le}
+use Rattle.std.proofs.shelf.Lists.{length-take-le, take-more, take-all}
 use Rattle.std.specs.declared.option.Option.{Option}
 use Rattle.std.specs.declared.option.Option.the-variants.{Some, None}
 use Rattle.std.specs.declared.result.Result.{Result}
@@ -42,6 +42,17 @@ each-all p (x ∷ xs) e = let a = and-parts (p x) (each p xs) e in (a .0, each-a
 pub each-from : {X : Type 0} (p : X → Bool) (xs : List X) → All (λ x. p x ≡ true) xs → each p xs ≡ true
 each-from p [] a = refl
 each-from p (x ∷ xs) a = and-from (p x) (each p xs) (a .0) (each-from p xs (a .1))
+
+each-append : {X : Type 0} (p : X → Bool) (xs ys : List X) → each p xs ≡ true → each p ys ≡ true → each p (xs ++ ys) ≡ true
+each-append p [] ys a b = b
+each-append p (x ∷ xs) ys a b = let q = and-parts (p x) (each p xs) a in and-from (p x) (each p (xs ++ ys)) (q .0) (each-append p xs ys (q .1) b)
+
+-- one element more
+pub each-more : {X : Type 0} (p : X → Bool) (xs : List X) (i : ℕ) (d : X) → i < length xs → each p (take i xs) ≡ true → p (getD xs i d) ≡ true → each p (take (i + 1) xs) ≡ true
+each-more p xs i d lt a b = ap (each p) (take-more xs i d lt) ∙ each-append p (take i xs) (getD xs i d ∷ []) a (and-from _ true b refl)
+
+pub each-whole : {X : Type 0} (p : X → Bool) (xs : List X) (i : ℕ) → length xs ≤ i → each p (take i xs) ≡ true → each p xs ≡ true
+each-whole p xs i ge a = ap (each p) (sym (take-all i xs ge)) ∙ a
 
 all-through : {X : Type 0} (P Q : X → Type 0) → ((x : X) → P x → Q x) → (xs : List X) → All P xs → All Q xs
 all-through P Q f [] a = tt

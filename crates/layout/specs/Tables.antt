@@ -82,9 +82,9 @@ rows t zero d i to = Ok nil
 rows t (suc f) d i to =
     cond (ltb i to)
     (and-then (judged Table.Nodes i (node-cause t d i to)) (λ _.
-     and-then (rows t f (suc d) (i + 1) (next t i)) (λ inner.
-     and-then (rows t f d (next t i) to) (λ rest.
-     Ok (cons (node (record { number = i }) (head t (row t i)) (block-of (row t i .block) inner)) rest)))))
+    and-then (rows t f (suc d) (i + 1) (next t i)) (λ inner.
+    and-then (rows t f d (next t i) to) (λ rest.
+    Ok (cons (node (record { number = i }) (head t (row t i)) (block-of (row t i .block) inner)) rest)))))
     (Ok nil)
 
 -- what is wrong with entry row k, which is e: the last entries may be taken by no node

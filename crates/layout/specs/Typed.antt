@@ -14,6 +14,9 @@ use Rattle.layout.specs.declared.rows.EntryRow.{EntryRow}
 use Rattle.layout.specs.declared.rows.ValueRow.{ValueRow}
 use Rattle.layout.specs.declared.rows.ValueRow.the-variants.{Null, String, Integer, Float, Bool as Truth, Unknown}
 
+abbrev pub byte-typed : ℕ → Bool
+byte-typed b = ltb b 256
+
 abbrev pub span-typed : Span → Bool
 span-typed s = ltb (s .start) (2 ^ 32) && ltb (s .length) (2 ^ 32)
 
@@ -44,4 +47,4 @@ each p [] = true
 each p (x ∷ xs) = p x && each p xs
 
 abbrev pub typed : Tables → Bool
-typed t = each (λ b. ltb b 256) (t .text) && (each node-typed (t .nodes) && each entry-typed (t .entries))
+typed t = each byte-typed (t .text) && (each node-typed (t .nodes) && each entry-typed (t .entries))

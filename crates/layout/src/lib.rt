@@ -1,2 +1,2 @@
-pub mod rows;
 pub mod fault;
+pub mod rows;

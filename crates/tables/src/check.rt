@@ -63,7 +63,11 @@ fn limit(table: Table, most: usize, n: usize) -> Result<(), TableFault>
     if n <= most {
         Ok(())
     } else {
-        Err(TableFault { table, row: 0, cause: Cause::Limit })
+        Err(TableFault {
+            table,
+            row: 0,
+            cause: Cause::Limit,
+        })
     }
 }
 
@@ -121,7 +125,11 @@ fn judge(table: Table, row: usize, cause: Option<Cause>) -> Result<(), TableFaul
 {
     match cause {
         None => Ok(()),
-        Some(cause) => Err(TableFault { table, row: row as u32, cause }),
+        Some(cause) => Err(TableFault {
+            table,
+            row: row as u32,
+            cause,
+        }),
     }
 }
 
@@ -167,5 +175,8 @@ pub fn check(source: Source<'_>) -> Result<Counts, TableFault>
     limit(Table::Entries, 65_535, source.entries.len())?;
     judge_entries(source)?;
     limit(Table::Text, 1_048_576, source.text.len())?;
-    Ok(Counts { nodes: source.nodes.len() as u32, entries: source.entries.len() as u32 })
+    Ok(Counts {
+        nodes: source.nodes.len() as u32,
+        entries: source.entries.len() as u32,
+    })
 }

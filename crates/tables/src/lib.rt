@@ -1,2 +1,5 @@
-pub mod source;
 pub mod check;
+pub mod held;
+mod linking;
+pub mod source;
+mod typed;

@@ -1,4 +1,4 @@
 pub mod handle;
+pub mod interface;
 pub mod span;
 pub mod value;
-pub mod interface;

@@ -8,11 +8,14 @@ use Rattle.index.proofs.Searching.{keys-length, key-at, hit, missed, left, rig
 use Rattle.index.proofs.sorted.Index.get.Needs as need
 
 pub loop-low-holds : need.loop-low-holds
-loop-low-holds g c = (omega arith, record {
-  bound = omega (arith, keys-length (vec-items (c .args .self .now .items)), c .args .self .now .items .ok .0, c .len-high .ensures);
-  below = λ k l. absurd (omega arith);
-  above = λ k l m. absurd (omega (arith, keys-length (vec-items (c .args .self .now .items)), c .args .self .now .items .ok .0, c .len-high .ensures));
-})
+loop-low-holds g c = (
+  omega arith,
+  record {
+    bound = omega (arith, keys-length (vec-items (c .args .self .now .items)), c .args .self .now .items .ok .0, c .len-high .ensures);
+    below = λ k l. absurd (omega arith);
+    above = λ k l m. absurd (omega (arith, keys-length (vec-items (c .args .self .now .items)), c .args .self .now .items .ok .0, c .len-high .ensures));
+  },
+)
 
 pub add-mid : need.add-mid
 add-mid g c = omega (arith, c .loop-low .inv .1 .bound, keys-length (vec-items (c .args .self .now .items)), c .args .self .now .items .ok .0, c .len-high .ok, c .len-high .ensures)

@@ -1,0 +1,17 @@
+use mathlib.Core.Path.{_≡_, sym, ap, _∙_}
+use mathlib.Core.Logic.{∥∥₁-elim}
+use base.Stored.{coded-set}
+use Rattle.std.specs.contracts.option.Option as option
+use Rattle.index.specs.contracts.link.EntryLink as entry-link
+use Rattle.tree.specs.Going.{all-entries}
+use Rattle.index.specs.Keys.{lookup}
+use Rattle.index.proofs.Linked.{entry-linked}
+use Rattle.layout.specs.Tables.{document}
+use Rattle.tables.specs.Given.{given as tables-in}
+use Rattle.tables.proofs.held.Tables.entry_link.Needs as need
+
+pub returns : need.returns
+returns c =
+    let doc = document (tables-in (c .args .self .now .source)) in
+    ∥∥₁-elim (c .args .self .now .«entries_linked») (coded-set (option.the-row entry-link.the-row .coded) _ _)
+    (λ e. c .get .ensures ∙ ap (λ xs. lookup xs (c .args .e .number)) e ∙ entry-linked (all-entries doc) (c .args .e .number))

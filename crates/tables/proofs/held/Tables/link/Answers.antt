@@ -1,0 +1,17 @@
+use mathlib.Core.Path.{_≡_, sym, ap, _∙_}
+use mathlib.Core.Logic.{∥∥₁-elim}
+use base.Stored.{coded-set}
+use Rattle.std.specs.contracts.option.Option as option
+use Rattle.index.specs.contracts.link.NodeLink as node-link
+use Rattle.tree.specs.Going.{all-spots}
+use Rattle.index.specs.Keys.{lookup}
+use Rattle.index.proofs.Linked.{linked}
+use Rattle.layout.specs.Tables.{document}
+use Rattle.tables.specs.Given.{given as tables-in}
+use Rattle.tables.proofs.held.Tables.link.Needs as need
+
+pub returns : need.returns
+returns c =
+    let doc = document (tables-in (c .args .self .now .source)) in
+    ∥∥₁-elim (c .args .self .now .linked) (coded-set (option.the-row node-link.the-row .coded) _ _)
+    (λ e. c .get .ensures ∙ ap (λ xs. lookup xs (c .args .n .number)) e ∙ linked (all-spots doc) (c .args .n .number))

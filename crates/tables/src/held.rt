@@ -1,0 +1,27 @@
+// The tree that tables make.
+ghost use mathlib.Core.Path.{_≡_};
+ghost use mathlib.Core.Bool.{true};
+ghost use Rattle.std.specs.Of.Vec.{vec-items};
+ghost use Rattle.index.specs.Links.{links-of, entry-links-of};
+ghost use Rattle.layout.specs.Tables.{document};
+ghost use Rattle.layout.specs.Typed.{typed as types-kept};
+ghost use Rattle.tables.specs.Given.{given};
+
+pub mod make;
+pub mod reads;
+
+use super::source::Source;
+use index::link::EntryLink;
+use index::link::NodeLink;
+use index::sorted::Index;
+
+// Tables with the links of their document.
+#[derive(Drop)]
+pub struct Tables<'a> {
+    source: Source<'a>,
+    nodes: Index<NodeLink>,
+    entries: Index<EntryLink>,
+    ghost typed: { types-kept (given source) ≡ true },
+    ghost linked: { ∥ vec-items (nodes .items) ≡ links-of (document (given source)) ∥₁ },
+    ghost entries_linked: { ∥ vec-items (entries .items) ≡ entry-links-of (document (given source)) ∥₁ },
+}
