@@ -32,3 +32,8 @@ pub struct Counts {
     pub nodes: u32,
     pub entries: u32,
 }
+
+impl TableFault {
+    // The number of the refusal.
+    pub const NUMBER: u8 = 9;
+}

@@ -5,15 +5,15 @@ ghost use Rattle.std.specs.Of.Vec.{vec-items};
 ghost use Rattle.index.specs.Links.{links-of, entry-links-of};
 ghost use Rattle.layout.specs.Tables.{document};
 ghost use Rattle.layout.specs.Typed.{typed as types-kept};
-ghost use Rattle.tables.specs.Given.{given};
+ghost use Rattle.table_check.specs.Given.{given};
 
 pub mod make;
 pub mod reads;
 
-use super::source::Source;
 use index::link::EntryLink;
 use index::link::NodeLink;
 use index::sorted::Index;
+use table_check::source::Source;
 
 // Tables with the links of their document.
 #[derive(Drop)]

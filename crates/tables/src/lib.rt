@@ -1,5 +1,1 @@
-pub mod check;
 pub mod held;
-mod linking;
-pub mod source;
-mod typed;

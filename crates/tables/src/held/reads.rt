@@ -12,7 +12,7 @@ ghost use Rattle.index.specs.Links.{link as node-link, entry-link};
 ghost use Rattle.layout.specs.Rows.{piece, in-text, ident, perhaps, perhaps-in-text, value, value-known};
 ghost use Rattle.layout.proofs.Answering.{NodeTold, EntryTold};
 ghost use Rattle.layout.proofs.Within.{lawful as lawful-tables};
-ghost use Rattle.tables.specs.Given.{given};
+ghost use Rattle.table_check.specs.Given.{given};
 ghost use Rattle.tables.specs.Held.{meant};
 use crate::held::Tables;
 use index::link::EntryLink;

@@ -7,7 +7,7 @@ use Rattle.tree.specs.Going.{all-entries}
 use Rattle.index.specs.Keys.{lookup}
 use Rattle.index.proofs.Linked.{entry-linked}
 use Rattle.layout.specs.Tables.{document}
-use Rattle.tables.specs.Given.{given as tables-in}
+use Rattle.table_check.specs.Given.{given as tables-in}
 use Rattle.tables.proofs.held.Tables.entry_link.Needs as need
 
 pub returns : need.returns

@@ -7,7 +7,7 @@ use Rattle.tree.specs.Going.{all-spots}
 use Rattle.index.specs.Keys.{lookup}
 use Rattle.index.proofs.Linked.{linked}
 use Rattle.layout.specs.Tables.{document}
-use Rattle.tables.specs.Given.{given as tables-in}
+use Rattle.table_check.specs.Given.{given as tables-in}
 use Rattle.tables.proofs.held.Tables.link.Needs as need
 
 pub returns : need.returns

@@ -3,7 +3,7 @@ use native.Mathlib.Omega.{arith}
 use Rattle.tree.specs.Going.{found}
 use Rattle.index.specs.Links.{link as link-at}
 use Rattle.layout.proofs.Answering.{met, unmet, node-told}
-use Rattle.tables.specs.Given.{given as tables-in}
+use Rattle.table_check.specs.Given.{given as tables-in}
 use Rattle.tables.specs.Held.{meant}
 use Rattle.tables.proofs.held.Tables.row.Needs as need
 

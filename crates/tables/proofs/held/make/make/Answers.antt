@@ -2,7 +2,7 @@ use mathlib.Core.Path.{_≡_, refl, _∙_}
 use Rattle.std.specs.Of.Vec.{vec-items}
 use Rattle.layout.proofs.Making.{nodes-rise, entries-rise}
 use Rattle.layout.proofs.Reading.{made}
-use Rattle.tables.specs.Given.{given as tables-in}
+use Rattle.table_check.specs.Given.{given as tables-in}
 use Rattle.tables.proofs.held.make.make.Needs as need
 
 pub unreachable-requires : need.unreachable-requires

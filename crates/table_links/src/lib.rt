@@ -1,0 +1,3 @@
+mod linking;
+pub mod links;
+mod typed;
