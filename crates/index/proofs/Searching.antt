@@ -20,6 +20,11 @@ key-at [] k x l e = absurd (omega arith)
 key-at (y ∷ ys) zero x l e = ap (λ (z : Keyed _). z .key) e
 key-at (y ∷ ys) (suc k) x l e = key-at ys k x (omega arith) e
 
+pub key-read : {V : Type 0} (xs : List (Keyed V)) (k : ℕ) (d : Keyed V) → k < length xs → getD xs k d .key ≡ getD (keys xs) k 0
+key-read [] k d l = absurd (omega arith)
+key-read (y ∷ ys) zero d l = refl
+key-read (y ∷ ys) (suc k) d l = key-read ys k d (omega arith)
+
 -- the keys below low are less than key, and those from high on are greater
 pub record Between (ks : List ℕ) (key low high : ℕ) : Type 0 where
   pub bound : high ≤ length ks

@@ -1,3 +1,4 @@
 pub mod keyed;
 pub mod link;
+pub mod links;
 pub mod sorted;

@@ -2,6 +2,7 @@
 ghost use mathlib.Core.Path.{_≡_};
 ghost use Rattle.std.specs.Of.Vec.{vec-items};
 ghost use Rattle.std.specs.Options.{Cases as BySome};
+ghost use Rattle.std.specs.Orderings.{When};
 ghost use Rattle.tree.specs.Numbers.{Rising};
 ghost use Rattle.index.specs.Keys.{keys, first-key, lookup};
 use super::keyed::Keyed;
@@ -12,19 +13,52 @@ pub struct Index<V> {
     ghost rising: { Rising (keys (vec-items items)) },
 }
 
+// Whether each item has a higher number than the one before it.
+fn rises<V: Copy>(items: &[Keyed<V>]) -> bool
+    ensures { λ r. ⌜ When r (Rising (keys (now (items .entry)))) (Rising (keys (now (items .entry))) → ⊥) ⌝ }
+{
+    let mut i = 1;
+    while i < items.len() {
+        if items[i - 1].key >= items[i].key {
+            return false;
+        }
+        i += 1;
+    }
+    true
+}
+
+// The value under the number `key`, if there is one.
+fn find<V: Copy>(items: &[Keyed<V>], key: u32) -> Option<V>
+    requires { ⌜ Rising (keys (now items)) ⌝ }
+    ensures { λ r. ⌜ r ≡ lookup (now (items .entry)) key ⌝ }
+{
+    let mut low = 0;
+    let mut high = items.len();
+    while low < high {
+        let mid = low + (high - low) / 2;
+        let item = items[mid];
+        if item.key == key {
+            return Some(item.value);
+        }
+        if item.key < key {
+            low = mid + 1;
+        } else {
+            high = mid;
+        }
+    }
+    None
+}
+
 impl<V: Copy> Index<V> {
-    // The items, if each has a higher number than the one before it.
+    // The items, if their numbers rise.
     pub fn new(items: Vec<Keyed<V>>) -> Option<Index<V>>
         ensures { λ r. ⌜ BySome r (Rising (keys (vec-items items)) → ⊥) (λ x. vec-items (x .items) ≡ vec-items items) ⌝ }
     {
-        let mut i = 1;
-        while i < items.len() {
-            if items[i - 1].key >= items[i].key {
-                return None;
-            }
-            i += 1;
+        if rises(&items) {
+            Some(Index { items })
+        } else {
+            None
         }
-        Some(Index { items })
     }
 
     // The lowest number, if there is one.
@@ -42,20 +76,6 @@ impl<V: Copy> Index<V> {
     pub fn get(&self, key: u32) -> Option<V>
         ensures { λ r. ⌜ r ≡ lookup (vec-items (now (self .entry) .items)) key ⌝ }
     {
-        let mut low = 0;
-        let mut high = self.items.len();
-        while low < high {
-            let mid = low + (high - low) / 2;
-            let item = self.items[mid];
-            if item.key == key {
-                return Some(item.value);
-            }
-            if item.key < key {
-                low = mid + 1;
-            } else {
-                high = mid;
-            }
-        }
-        None
+        find(&self.items, key)
     }
 }

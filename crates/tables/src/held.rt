@@ -10,18 +10,15 @@ ghost use Rattle.table_check.specs.Given.{given};
 pub mod make;
 pub mod reads;
 
-use index::link::EntryLink;
-use index::link::NodeLink;
-use index::sorted::Index;
+use index::links::Links;
 use table_check::source::Source;
 
 // Tables with the links of their document.
 #[derive(Drop)]
 pub struct Tables<'a> {
     source: Source<'a>,
-    nodes: Index<NodeLink>,
-    entries: Index<EntryLink>,
+    links: Links,
     ghost typed: { types-kept (given source) ≡ true },
-    ghost linked: { ∥ vec-items (nodes .items) ≡ links-of (document (given source)) ∥₁ },
-    ghost entries_linked: { ∥ vec-items (entries .items) ≡ entry-links-of (document (given source)) ∥₁ },
+    ghost linked: { ∥ vec-items (links .nodes .items) ≡ links-of (document (given source)) ∥₁ },
+    ghost entries_linked: { ∥ vec-items (links .entries .items) ≡ entry-links-of (document (given source)) ∥₁ },
 }

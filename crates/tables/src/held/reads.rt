@@ -6,10 +6,11 @@ ghost use lib.ListN.{length};
 ghost use Rattle.std.specs.Options.{mapped, Cases as BySome};
 ghost use Rattle.std.specs.declared.option.Option.the-variants.{None, Some};
 ghost use mathlib.Core.Bool.{true};
-ghost use Rattle.tree.specs.Going.{found, found-entry};
+ghost use Rattle.tree.specs.Going.{first-node, found, found-entry};
 ghost use Rattle.tree.specs.Lent.{ident-of, value-of};
 ghost use Rattle.index.specs.Links.{link as node-link, entry-link};
 ghost use Rattle.layout.specs.Rows.{piece, in-text, ident, perhaps, perhaps-in-text, value, value-known};
+ghost use Rattle.layout.proofs.Filling.{node-number};
 ghost use Rattle.layout.proofs.Answering.{NodeTold, EntryTold};
 ghost use Rattle.layout.proofs.Within.{lawful as lawful-tables};
 ghost use Rattle.table_check.specs.Given.{given};
@@ -71,18 +72,25 @@ fn lend_value(text: &[u8], row: ValueRow) -> Value<'_>
 }
 
 impl Tables<'_> {
+    // The number of the first node.
+    fn first(&self) -> Option<u32>
+        ensures { λ r. ⌜ mapped node-number r ≡ first-node (meant (now (self .entry))) ⌝ }
+    {
+        self.links.nodes.first()
+    }
+
     // What leads on from a node.
     fn link(&self, n: NodeHandle) -> Option<NodeLink>
         ensures { λ r. ⌜ r ≡ mapped node-link (found (meant (now (self .entry))) n) ⌝ }
     {
-        self.nodes.get(n.number)
+        self.links.nodes.get(n.number)
     }
 
     // What leads on from an entry.
     fn entry_link(&self, e: EntryHandle) -> Option<EntryLink>
         ensures { λ r. ⌜ r ≡ mapped entry-link (found-entry (meant (now (self .entry))) e) ⌝ }
     {
-        self.entries.get(e.number)
+        self.links.entries.get(e.number)
     }
 }
 
@@ -114,7 +122,7 @@ pub impl Tree for Tables<'_> as TablesTree {
     ghost lawful = { λ t. lawful-tables (given (t .source)) (t .typed) };
 
     fn first_node(&self) -> Option<NodeHandle> {
-        match self.nodes.first() {
+        match self.first() {
             None => None,
             Some(number) => Some(NodeHandle { number }),
         }
@@ -145,13 +153,13 @@ pub impl Tree for Tables<'_> as TablesTree {
     }
 
     fn name(&self, n: NodeHandle) -> Option<Identifier<'_>> {
-        let row = self.row(n)?;
-        Some(lend_ident(self.source.text, row.name))
+        let node = self.row(n)?;
+        Some(lend_ident(self.source.text, node.name))
     }
 
     fn node_type(&self, n: NodeHandle) -> Option<Identifier<'_>> {
-        let row = self.row(n)?;
-        lend_perhaps(self.source.text, row.ty)
+        let node = self.row(n)?;
+        lend_perhaps(self.source.text, node.ty)
     }
 
     fn node_span(&self, n: NodeHandle) -> Option<Span> {
@@ -159,18 +167,18 @@ pub impl Tree for Tables<'_> as TablesTree {
     }
 
     fn entry_name(&self, e: EntryHandle) -> Option<Identifier<'_>> {
-        let row = self.entry_row(e)?;
-        lend_perhaps(self.source.text, row.name)
+        let entry = self.entry_row(e)?;
+        lend_perhaps(self.source.text, entry.name)
     }
 
     fn entry_type(&self, e: EntryHandle) -> Option<Identifier<'_>> {
-        let row = self.entry_row(e)?;
-        lend_perhaps(self.source.text, row.ty)
+        let entry = self.entry_row(e)?;
+        lend_perhaps(self.source.text, entry.ty)
     }
 
     fn entry_value(&self, e: EntryHandle) -> Option<Value<'_>> {
-        let row = self.entry_row(e)?;
-        Some(lend_value(self.source.text, row.value))
+        let entry = self.entry_row(e)?;
+        Some(lend_value(self.source.text, entry.value))
     }
 
     fn entry_span(&self, e: EntryHandle) -> Option<Span> {
