@@ -1,7 +1,7 @@
 -- Looking a handle up in the links of a document is finding it in the document. Assumes nothing.
 use mathlib.Core.Path.{_≡_, refl, sym, ap, _∙_}
 use mathlib.Core.Bool.{Bool, true, false, cond}
-use mathlib.Core.List.{List, [], _∷_}
+use mathlib.Core.List.{List, [], _∷_, _++_}
 use Prim.Native.Nat.{ℕ}
 use lib.Dec.{eqb}
 use Rattle.std.specs.Options.{mapped}
@@ -38,3 +38,11 @@ pub first-linked : (doc : Nodes) → mapped (λ n. record { number = n }) (first
 unfolding spots
 first-linked nil = refl
 first-linked (cons n ns) = refl
+
+pub links-append : (xs ys : List Spot) → links (xs ++ ys) ≡ links xs ++ links ys
+links-append [] ys = refl
+links-append (x ∷ xs) ys = ap (λ l. record { key = handle-in (x .self) .number; value = link x } ∷ l) (links-append xs ys)
+
+pub entry-links-append : (xs ys : List EntrySpot) → entry-links (xs ++ ys) ≡ entry-links xs ++ entry-links ys
+entry-links-append [] ys = refl
+entry-links-append (x ∷ xs) ys = ap (λ l. record { key = x .self .handle .number; value = entry-link x } ∷ l) (entry-links-append xs ys)

@@ -22,12 +22,8 @@ impl Links {
         ensures nodes { λ r. ⌜ BySome r (Unit {0}) (λ l. vec-items (l .nodes .items) ≡ vec-items nodes) ⌝ }
         ensures entries { λ r. ⌜ BySome r (Unit {0}) (λ l. vec-items (l .entries .items) ≡ vec-items entries) ⌝ }
     {
-        let Some(nodes) = Index::new(nodes) else {
-            return None
-        };
-        let Some(entries) = Index::new(entries) else {
-            return None
-        };
+        let nodes = Index::new(nodes)?;
+        let entries = Index::new(entries)?;
         Some(Links { nodes, entries })
     }
 }

@@ -20,6 +20,7 @@ use Rattle.tree.specs.Going.{Spot, EntrySpot, spots, spots-in, all-spots, all-e
 use Rattle.index.specs.declared.keyed.Keyed.{Keyed}
 use Rattle.index.specs.declared.link.NodeLink.{NodeLink}
 use Rattle.index.specs.declared.link.EntryLink.{EntryLink}
+use Rattle.index.proofs.Linked.{links-append, entry-links-append}
 use Rattle.index.specs.Links.{link, entry-link, links, entry-links, links-of, entry-links-of}
 use Rattle.layout.specs.Rows as say
 use Rattle.layout.specs.Rows.{Tables, head, picked, entry}
@@ -81,10 +82,6 @@ picked-first t start count h =
     let l = length-drop start (t .entries) in
     let m = length-take-le count (drop start (t .entries)) (omega arith) in
     entry-first (t .text) start (take count (drop start (t .entries))) ∙ ap (λ n. first-entry-row start (start + n)) m
-
-links-append : (xs ys : List Spot) → links (xs ++ ys) ≡ links xs ++ links ys
-links-append [] ys = refl
-links-append (x ∷ xs) ys = ap (λ l. record { key = handle-in (x .self) .number; value = link x } ∷ l) (links-append xs ys)
 
 -- with the links xs before, ys are there behind the rows from i up to to, which p holds
 abbrev pub Fills : Tables → ℕ → ℕ → Option NodeHandle → List (Keyed NodeLink) → List (Keyed NodeLink) → Type 0
@@ -167,10 +164,6 @@ entries-are t i k (r ∷ rs) (s ∷ ss) e =
 
 pub all-entries-are : (t : Tables) (doc : Nodes) → Laid t doc → rows-entries t 0 (t .nodes) ≡ all-entries doc
 all-entries-are t doc l = entries-are t 0 0 (t .nodes) (all-spots doc) (l .nodes)
-
-pub entry-links-append : (xs ys : List EntrySpot) → entry-links (xs ++ ys) ≡ entry-links xs ++ entry-links ys
-entry-links-append [] ys = refl
-entry-links-append (x ∷ xs) ys = ap (λ l. record { key = x .self .handle .number; value = entry-link x } ∷ l) (entry-links-append xs ys)
 
 -- one node row more
 pub rows-more : (t : Tables) (i : ℕ) (xs one : List (Keyed EntryLink)) → i < length (t .nodes)

@@ -1,7 +1,7 @@
 -- What a KDL document is. Assumes nothing.
 use mathlib.Core.Bool.{Bool, true, false}
 use mathlib.Core.List.{List, [], _∷_}
-use Prim.Native.Nat.{ℕ, suc}
+use Prim.Native.Nat.{ℕ, suc, max}
 use Rattle.std.specs.declared.option.Option.{Option}
 use Rattle.std.specs.declared.option.Option.the-variants.{Some, None}
 use Rattle.tree.specs.declared.handle.NodeHandle.{NodeHandle}
@@ -71,6 +71,19 @@ within (block ns) = ns
 abbrev pub is-block : Block → Bool
 is-block no-block = false
 is-block (block ns) = true
+
+-- how deep nodes nest
+abbrev mutual
+  pub depth : Nodes → ℕ
+  depth nil = 0
+  depth (cons n ns) = max (depth-node n) (depth ns)
+
+  pub depth-node : Node → ℕ
+  depth-node (node h head b) = suc (depth-block b)
+
+  pub depth-block : Block → ℕ
+  depth-block no-block = 0
+  depth-block (block ns) = depth ns
 
 -- an argument, with its number in its node
 pub record Argument : Type 0 where

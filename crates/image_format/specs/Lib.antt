@@ -1,0 +1,4 @@
+pub mod Signed
+pub mod Writing
+pub mod Reading
+pub mod Law

@@ -1,0 +1,3 @@
+pub mod cut;
+pub mod fault;
+pub mod take;

@@ -1,0 +1,496 @@
+#!/usr/bin/env python3
+"""Makes test cases for the check of images: sound images and damaged ones.
+
+Usage: damage.py --seed SEED --count COUNT [FILE...]
+
+Each FILE is a sound image; docs/IMAGE.md gives the format. Prints COUNT lines
+of hex, one image a line, no two alike; the empty image is an empty line. The
+same seed, count and files give the same lines.
+
+First come the files as they are, then single damages of each file at every
+offset and every record; where these are more than two thirds of COUNT, that
+many are drawn from them. The rest is drawn at random: generated small
+documents, sound or damaged, images put together from pieces of others,
+several damages in one image, and nodes nested about as deep as is allowed.
+"""
+
+import argparse
+import hashlib
+import struct
+import sys
+
+HEAD = 6
+# The bytes before the parts, of the kinds that hold parts.
+LEADS = {1: 0, 2: 8, 5: 8, 6: 8}
+
+BYTES = [0, 1, 2, 3, 4, 5, 6, 7, 8, 9, 10, 11, 12, 14, 16, 127, 128, 254, 255]
+STEPS = [1, -1, 2, -2, 6, -6, 8, -8, 14, -14]
+INSERTED = [0, 1, 2, 5, 6, 255]
+LENGTHS = [0, 1, 5, 6, 7, 13, 14, 22, 255, 256, 1048576, 1048577, 2 ** 31, 2 ** 32 - 6, 2 ** 32 - 1]
+LENGTH_STEPS = [1, 2, 3, 4, 5, 6, 7, 8, 14, 20, 22, 256, 65536, 16777216]
+KINDS = list(range(14)) + [32, 33, 255, 256, 257, 258, 261, 263, 512, 65535]
+
+
+class Random:
+    """SplitMix64, so that the cases depend on no version of Python."""
+
+    def __init__(self, seed):
+        self.state = seed % 2 ** 64
+
+    def next(self):
+        self.state = (self.state + 0x9e3779b97f4a7c15) % 2 ** 64
+        mixed = self.state
+        mixed = (mixed ^ (mixed >> 30)) * 0xbf58476d1ce4e5b9 % 2 ** 64
+        mixed = (mixed ^ (mixed >> 27)) * 0x94d049bb133111eb % 2 ** 64
+        return mixed ^ (mixed >> 31)
+
+    def below(self, bound):
+        return self.next() % bound
+
+    def pick(self, choices):
+        return choices[self.below(len(choices))]
+
+    def once_in(self, times):
+        return self.below(times) == 0
+
+    def bytes(self, count):
+        return bytes(self.below(256) for _ in range(count))
+
+
+# A record is (kind, bytes before the parts, parts). Kind None is bare bytes
+# without a head.
+
+def leaf(kind, body):
+    return (kind, body, ())
+
+
+def written(record):
+    kind, lead, parts = record
+    body = lead + b''.join(written(part) for part in parts)
+    if kind is None:
+        return body
+    return struct.pack('<IH', HEAD + len(body), kind) + body
+
+
+def body_of(record):
+    return written(record)[HEAD:]
+
+
+def records_in(image, start, end):
+    found = []
+    while start < end:
+        if end - start < HEAD:
+            raise ValueError('no head')
+        length, kind = struct.unpack_from('<IH', image, start)
+        behind = start + length
+        if length < HEAD or behind > end:
+            raise ValueError('no length')
+        if kind in LEADS:
+            lead = start + HEAD + LEADS[kind]
+            if lead > behind:
+                raise ValueError('no span')
+            found.append((kind, image[start + HEAD:lead], tuple(records_in(image, lead, behind))))
+        else:
+            found.append(leaf(kind, image[start + HEAD:behind]))
+        start = behind
+    return found
+
+
+def tree_of(image):
+    found = records_in(image, 0, len(image))
+    if len(found) != 1:
+        raise ValueError('no single record')
+    return found[0]
+
+
+def count_of(record):
+    return 1 + sum(count_of(part) for part in record[2])
+
+
+def add_heads(record, start, offsets):
+    """Adds the offsets of the heads, in the order of the bytes; gives the offset behind the record."""
+    kind, lead, parts = record
+    offsets.append(start)
+    start += len(lead) if kind is None else HEAD + len(lead)
+    for part in parts:
+        start = add_heads(part, start, offsets)
+    return start
+
+
+def record_at(record, number):
+    """The record of that number, counted from 0 in the order of the bytes."""
+    if number == 0:
+        return record
+    number -= 1
+    for part in record[2]:
+        size = count_of(part)
+        if number < size:
+            return record_at(part, number)
+        number -= size
+    raise IndexError(number)
+
+
+def replaced(record, number, change):
+    """The list of records that stands for record, with change(r) in place of the record r of that number."""
+    if number == 0:
+        return change(record)
+    number -= 1
+    kind, lead, parts = record
+    result = []
+    for part in parts:
+        size = count_of(part)
+        if 0 <= number < size:
+            result += replaced(part, number, change)
+        else:
+            result.append(part)
+        number -= size
+    return [(kind, lead, tuple(result))]
+
+
+# Small sound records, one for each kind and shape.
+
+ZERO = bytes(8)
+NAME = leaf(3, ZERO)
+TYPE = leaf(4, ZERO)
+VALUES = [
+    leaf(7, b''),
+    leaf(7, b'\xff\x00x'),
+    leaf(8, bytes(16)),
+    leaf(9, bytes(8)),
+    leaf(10, b'\x01'),
+    leaf(11, b''),
+]
+SMALL = [
+    (1, b'', ()),
+    (2, ZERO, (NAME,)),
+    NAME,
+    TYPE,
+    (5, ZERO, (leaf(11, b''),)),
+    (6, ZERO, (NAME, leaf(11, b''))),
+] + VALUES + [leaf(0, b''), leaf(12, b''), leaf(2, b''), leaf(3, b''), leaf(5, bytes(7)), leaf(10, b'\x02')]
+STRAY = [(None, b'\x00', ()), (None, b'\x06\x00\x00\x00\x01', ()), (None, b'\xff' * 6, ())]
+
+
+# Changes of one record; the lengths of its holders are corrected. First
+# those of whole parts.
+PART_EDITS = [
+    lambda r: [],
+    lambda r: [r, r],
+    lambda r: [leaf(r[0], b'')],
+    lambda r: [(1, b'', (r,))],
+    lambda r: [(2, ZERO, (NAME, r))],
+    lambda r: [(2, ZERO, (NAME, (1, b'', (r,))))],
+    lambda r: [(5, ZERO, (r,))],
+    lambda r: [(6, ZERO, (NAME, r))],
+    lambda r: list(r[2]),
+    lambda r: [(r[0], r[1], ())],
+    lambda r: [(r[0], r[1], r[2][1:])],
+    lambda r: [(r[0], r[1], r[2][:-1])],
+    lambda r: [(r[0], r[1], r[2][::-1])],
+]
+
+
+def edits():
+    made = list(PART_EDITS)
+    for kind in KINDS:
+        made.append(lambda r, kind=kind: [leaf(kind, body_of(r))])
+    for count in range(1, 9):
+        made.append(lambda r, count=count: [leaf(r[0], body_of(r)[:-count])])
+        made.append(lambda r, count=count: [leaf(r[0], body_of(r)[count:])])
+        made.append(lambda r, count=count: [leaf(r[0], body_of(r) + bytes(count))])
+    made.append(lambda r: [leaf(r[0], body_of(r) + b'\xff')])
+    for extra in SMALL + STRAY:
+        made.append(lambda r, extra=extra: [extra, r])
+        made.append(lambda r, extra=extra: [r, extra])
+        made.append(lambda r, extra=extra: [extra])
+        made.append(lambda r, extra=extra: [(r[0], r[1], r[2] + (extra,))])
+    return made
+
+
+EDITS = edits()
+
+
+def edited(tree, number, change):
+    return b''.join(written(record) for record in replaced(tree, number, change))
+
+
+def with_byte(image, offset, byte):
+    return image[:offset] + bytes([byte % 256]) + image[offset + 1:]
+
+
+def with_number(image, offset, size, number):
+    return image[:offset] + (number % 256 ** size).to_bytes(size, 'little') + image[offset + size:]
+
+
+class Single:
+    """The single damages of one image, each under a number below `count`."""
+
+    def __init__(self, image, tree=None):
+        self.image = image
+        self.families = [
+            (len(image), len(BYTES), self.set_byte),
+            (len(image), len(STEPS), self.step_byte),
+            (len(image), 8, self.flip_bit),
+            (len(image), 1, self.truncate),
+            (len(image) + 1, len(INSERTED), self.insert),
+            (len(image), 1, self.repeat),
+            (len(image), 1, self.delete),
+        ]
+        if tree is not None:
+            self.tree = tree
+            self.heads = []
+            add_heads(tree, 0, self.heads)
+            self.families += [
+                (len(self.heads), len(LENGTHS), self.set_length),
+                (len(self.heads), 2 * len(LENGTH_STEPS), self.step_length),
+                (len(self.heads), len(KINDS), self.set_kind),
+                (len(self.heads), len(EDITS), self.edit),
+            ]
+        self.count = sum(places * ways for places, ways, _ in self.families)
+
+    def case(self, number):
+        for places, ways, make in self.families:
+            if number < places * ways:
+                return make(number // ways, number % ways)
+            number -= places * ways
+        raise IndexError(number)
+
+    def set_byte(self, offset, way):
+        return with_byte(self.image, offset, BYTES[way])
+
+    def step_byte(self, offset, way):
+        return with_byte(self.image, offset, self.image[offset] + STEPS[way])
+
+    def flip_bit(self, offset, way):
+        return with_byte(self.image, offset, self.image[offset] ^ 1 << way)
+
+    def truncate(self, offset, way):
+        return self.image[:offset]
+
+    def insert(self, offset, way):
+        return self.image[:offset] + bytes([INSERTED[way]]) + self.image[offset:]
+
+    def repeat(self, offset, way):
+        return self.image[:offset + 1] + self.image[offset:]
+
+    def delete(self, offset, way):
+        return self.image[:offset] + self.image[offset + 1:]
+
+    def set_length(self, head, way):
+        return with_number(self.image, self.heads[head], 4, LENGTHS[way])
+
+    def step_length(self, head, way):
+        step = LENGTH_STEPS[way // 2] * (-1 if way % 2 else 1)
+        at = self.heads[head]
+        old = int.from_bytes(self.image[at:at + 4], 'little')
+        return with_number(self.image, at, 4, old + step)
+
+    def set_kind(self, head, way):
+        return with_number(self.image, self.heads[head] + 4, 2, KINDS[way])
+
+    def edit(self, head, way):
+        return edited(self.tree, head, EDITS[way])
+
+
+# Generated documents.
+
+def random_span(random):
+    if random.once_in(3):
+        return random.bytes(8)
+    return struct.pack('<II', random.below(300), random.below(40))
+
+
+def random_text(random):
+    length = random.pick([0, 1, 1, 2, 3, 4, 5, 8, 12])
+    if random.once_in(3):
+        return random.bytes(length)
+    return bytes(random.pick(b'abcdoorsize#01@') for _ in range(length))
+
+
+def random_identifier(random, kind):
+    return leaf(kind, random_span(random) + random_text(random))
+
+
+def random_value(random):
+    kind = 7 + random.below(5)
+    if kind == 7:
+        return leaf(7, random_text(random))
+    if kind == 8:
+        number = random.pick([0, 1, 17, 2 ** 63 - 1, 2 ** 63, 2 ** 64 - 1, 2 ** 64, 2 ** 127 - 1])
+        if random.once_in(2):
+            number = -number - random.below(2)
+        return leaf(8, number.to_bytes(16, 'little', signed=True))
+    if kind == 9:
+        return leaf(9, random.bytes(8))
+    if kind == 10:
+        return leaf(10, bytes([random.below(2)]))
+    return leaf(11, b'')
+
+
+def random_entry(random):
+    kind = 5 + random.below(2)
+    parts = []
+    if kind == 6:
+        parts.append(random_identifier(random, 3))
+    if random.once_in(3):
+        parts.append(random_identifier(random, 4))
+    parts.append(random_value(random))
+    return (kind, random_span(random), tuple(parts))
+
+
+def random_node(random, depth):
+    parts = [random_identifier(random, 3)]
+    if random.once_in(3):
+        parts.append(random_identifier(random, 4))
+    for _ in range(random.pick([0, 0, 1, 1, 2, 3])):
+        parts.append(random_entry(random))
+    if random.once_in(2):
+        parts.append(random_document(random, depth - 1))
+    return (2, random_span(random), tuple(parts))
+
+
+def random_document(random, depth):
+    count = random.pick([0, 1, 1, 2, 3]) if depth > 0 else 0
+    return (1, b'', tuple(random_node(random, depth) for _ in range(count)))
+
+
+def random_chain(random):
+    """A document with nodes nested 30 to 34 deep; at most 32 is sound."""
+    last = random.below(6)
+    inner = [
+        lambda: (),
+        lambda: ((1, b'', ()),),
+        lambda: ((1, b'', (random.pick(SMALL),)),),
+        lambda: ((1, b'', (random.pick(STRAY),)),),
+        lambda: (random_entry(random),),
+        lambda: ((1, b'', ((2, ZERO, (NAME,)), (2, ZERO, (NAME,)))),),
+    ][last]()
+    node = (2, random_span(random), (NAME,) + inner)
+    for _ in range(29 + random.below(5)):
+        row = [node]
+        if random.once_in(12):
+            row.insert(random.below(2), random_node(random, 1))
+        parts = [NAME]
+        if random.once_in(12):
+            parts.append(random_entry(random))
+        parts.append((1, b'', tuple(row)))
+        node = (2, ZERO, tuple(parts))
+    return (1, b'', (node,))
+
+
+# Random damages.
+
+def spliced_bytes(random, image, other):
+    start = random.below(len(other) + 1)
+    piece = other[start:start + random.pick([1, 2, 4, 6, 8, 14, 20, 36, 64])]
+    at = random.below(len(image) + 1)
+    taken = random.pick([0, len(piece), random.below(20)])
+    result = image[:at] + piece + image[at + taken:]
+    if random.once_in(2) and len(result) >= HEAD:
+        result = with_number(result, 0, 4, len(result))
+    return result
+
+
+def spliced_records(random, tree, other):
+    piece = record_at(other, random.below(count_of(other)))
+    number = random.below(count_of(tree))
+    way = random.below(4)
+    if way == 0:
+        return edited(tree, number, lambda r: [piece])
+    if way == 1:
+        return edited(tree, number, lambda r: [piece, r])
+    if way == 2:
+        return edited(tree, number, lambda r: [r, piece])
+    return edited(tree, number, lambda r: [(r[0], r[1], r[2] + (piece,))])
+
+
+def random_tree(random, trees):
+    way = random.below(8)
+    if trees and way < 2:
+        return random.pick(trees)
+    if way == 7 and random.once_in(2):
+        return random_chain(random)
+    return random_document(random, 1 + random.below(4))
+
+
+def random_case(random, trees):
+    tree = random_tree(random, trees)
+    image = written(tree)
+    way = random.below(10)
+    if way == 0:
+        return image
+    if way < 4:
+        places, ways, make = random.pick(Single(image, tree).families)
+        return make(random.below(places), random.below(ways))
+    if way < 6:
+        return edited(tree, random.below(count_of(tree)), random.pick(random.pick([PART_EDITS, EDITS])))
+    if way == 6:
+        return spliced_bytes(random, image, written(random_tree(random, trees)))
+    if way == 7:
+        return spliced_records(random, tree, random_tree(random, trees))
+    for _ in range(1 + random.below(2)):
+        records = replaced(tree, random.below(count_of(tree)), random.pick(EDITS))
+        if len(records) != 1 or records[0][0] is None:
+            return b''.join(written(record) for record in records)
+        tree = records[0]
+    image = written(tree)
+    for _ in range(random.below(3)):
+        single = Single(image)
+        image = single.case(random.below(single.count))
+    return image
+
+
+def cases(seed, count, images):
+    random = Random(seed)
+    trees = [tree_of(image) for image in images]
+    yield from images
+    singles = [Single(image, tree) for image, tree in zip(images, trees)]
+    total = sum(single.count for single in singles)
+    share = count * 2 // 3
+    if total <= share:
+        for single in singles:
+            for number in range(single.count):
+                yield single.case(number)
+    else:
+        for _ in range(share):
+            number = random.below(total)
+            for single in singles:
+                if number < single.count:
+                    yield single.case(number)
+                    break
+                number -= single.count
+    while True:
+        yield random_case(random, trees)
+
+
+def main():
+    parser = argparse.ArgumentParser(description='Makes sound and damaged images as lines of hex.')
+    parser.add_argument('--seed', type=int, required=True)
+    parser.add_argument('--count', type=int, required=True)
+    parser.add_argument('files', nargs='*', metavar='FILE')
+    options = parser.parse_args()
+    images = []
+    for path in options.files:
+        with open(path, 'rb') as file:
+            image = file.read()
+        try:
+            tree_of(image)
+        except ValueError as error:
+            print(f'{path}: not a sound image ({error})', file=sys.stderr)
+            return 1
+        images.append(image)
+    seen = set()
+    if options.count > 0:
+        for case in cases(options.seed, options.count, images):
+            mark = hashlib.blake2b(case, digest_size=12).digest()
+            if mark in seen:
+                continue
+            seen.add(mark)
+            print(case.hex())
+            if len(seen) == options.count:
+                break
+    return 0
+
+
+if __name__ == '__main__':
+    sys.exit(main())
