@@ -5,3 +5,5 @@ pub mod Accepted
 pub mod Complete
 pub mod Passing
 pub mod Linking
+pub mod Standing
+pub mod Made

@@ -10,11 +10,12 @@ use Rattle.tree.specs.Document.{Nodes}
 use Rattle.tree.specs.Going.{all-spots, all-entries}
 use Rattle.tree.specs.Outcome.{and-then, over}
 use Rattle.layout.specs.Rows.{Tables}
-use Rattle.layout.specs.Tables.{rows, entry-rows, limited, read, counts-of, checked}
+use Rattle.tree.specs.Counts.{counts-of}
+use Rattle.layout.specs.Tables.{rows, entry-rows, limited, read, checked}
 use Rattle.layout.specs.Layout.{Laid}
 use Rattle.layout.specs.declared.fault.Table.{Table}
 use Rattle.layout.specs.declared.fault.TableFault.{TableFault}
-use Rattle.layout.specs.declared.fault.Counts.{Counts}
+use Rattle.tree.specs.declared.counts.Counts.{Counts}
 use Rattle.layout.proofs.Reading.{laid}
 use Rattle.layout.proofs.Placed.{counted}
 

@@ -21,7 +21,8 @@ use Rattle.index.specs.Keys.{keys}
 use Rattle.index.specs.Links.{links, entry-links, links-of, entry-links-of}
 use Rattle.index.proofs.Linked.{link-keys, entry-link-keys}
 use Rattle.layout.specs.Rows.{Tables}
-use Rattle.layout.specs.Tables.{rows, entry-rows, limited, read, counts-of, checked, held, document}
+use Rattle.tree.specs.Counts.{counts-of}
+use Rattle.layout.specs.Tables.{rows, entry-rows, limited, read, checked, held, document}
 use Rattle.layout.specs.Layout.{Laid}
 use Rattle.layout.specs.Typed.{typed}
 use Rattle.layout.specs.declared.fault.Table.{Table}

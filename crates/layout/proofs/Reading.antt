@@ -22,14 +22,15 @@ use Rattle.tree.specs.Document.{Entry, Head, Node, Block, block, no-block, Node
 use Rattle.tree.specs.Going.{Spot, spots, spots-in, spots-of, all-spots, all-entries}
 use Rattle.tree.specs.Outcome.{and-then, over}
 use Rattle.layout.specs.Rows.{Tables, head, picked, perhaps-in-text, value-known}
-use Rattle.layout.specs.Tables.{blank, row, next, line, block-of, rows, judged, entry-cause, entry-rows, limited, read, counts-of, checked, held, document}
+use Rattle.tree.specs.Counts.{counts-of}
+use Rattle.layout.specs.Tables.{blank, row, next, line, block-of, rows, judged, entry-cause, entry-rows, limited, read, checked, held, document}
 use Rattle.layout.specs.Layout.{Says, row-says, rows-say, node-says, nodes-say, NodeParts, EntryParts, Laid, Law, Unique, Exact, Made}
 use Rattle.layout.specs.declared.rows.NodeRow.{NodeRow}
 use Rattle.layout.specs.declared.rows.EntryRow.{EntryRow}
 use Rattle.layout.specs.declared.fault.Table.{Table}
 use Rattle.layout.specs.declared.fault.Cause.{Cause}
 use Rattle.layout.specs.declared.fault.TableFault.{TableFault}
-use Rattle.layout.specs.declared.fault.Counts.{Counts}
+use Rattle.tree.specs.declared.counts.Counts.{Counts}
 use Rattle.layout.proofs.Steps.{Passed, passed, no-cause, let-through, Fit, rows-none, closed}
 use Rattle.layout.proofs.Laying.{total, total-append, total-is, say-append, says-length, say-length, said, said-at, line-after, picked-length, spots-some, spots-none, Lays, lays}
 

@@ -11,11 +11,12 @@ use Rattle.tree.specs.declared.handle.NodeHandle.{NodeHandle}
 use Rattle.tree.specs.Document.{Head, Node, Nodes, nil, handle-in, head-in, block-in, is-block}
 use Rattle.tree.specs.Going.{Spot, spots-in, all-spots, all-entries}
 use Rattle.layout.specs.Rows.{Tables, in-text, perhaps-in-text, value-known, head}
-use Rattle.layout.specs.Tables.{read, counts-of, document}
+use Rattle.tree.specs.Counts.{counts-of}
+use Rattle.layout.specs.Tables.{read, document}
 use Rattle.layout.specs.declared.rows.NodeRow.{NodeRow}
 use Rattle.layout.specs.declared.rows.EntryRow.{EntryRow}
 use Rattle.layout.specs.declared.fault.TableFault.{TableFault}
-use Rattle.layout.specs.declared.fault.Counts.{Counts}
+use Rattle.tree.specs.declared.counts.Counts.{Counts}
 
 -- what a node row says, with bytes in the place of parts of the text, and entries in the place of entry rows
 pub record Says : Type 0 where

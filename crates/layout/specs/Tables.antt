@@ -9,7 +9,7 @@ use Rattle.std.specs.declared.option.Option.the-variants.{Some, None}
 use Rattle.std.specs.declared.result.Result.{Result}
 use Rattle.std.specs.declared.result.Result.the-variants.{Ok, Err}
 use Rattle.tree.specs.Document.{Block, block, no-block, Nodes, node, nil, cons}
-use Rattle.tree.specs.Going.{all-spots, all-entries}
+use Rattle.tree.specs.Counts.{counts-of}
 use Rattle.tree.specs.Outcome.{and-then, over}
 use Rattle.layout.specs.Rows.{Tables, in-text, perhaps-in-text, value-known, head}
 use Rattle.layout.specs.declared.rows.NodeRow.{NodeRow}
@@ -18,7 +18,7 @@ use Rattle.layout.specs.declared.rows.ValueRow.the-variants.{Null}
 use Rattle.layout.specs.declared.fault.Table.{Table}
 use Rattle.layout.specs.declared.fault.Cause.{Cause}
 use Rattle.layout.specs.declared.fault.TableFault.{TableFault}
-use Rattle.layout.specs.declared.fault.Counts.{Counts}
+use Rattle.tree.specs.declared.counts.Counts.{Counts}
 
 abbrev pub blank : NodeRow
 blank = record {
@@ -118,9 +118,6 @@ read t =
     and-then (entry-rows t 0 (t .entries)) (λ _.
     and-then (limited Table.Text 1048576 (length (t .text))) (λ _.
     Ok ns)))))
-
-abbrev pub counts-of : Nodes → Counts
-counts-of doc = record { nodes = length (all-spots doc); entries = length (all-entries doc) }
 
 -- what the check answers
 abbrev pub checked : Tables → Result Counts TableFault

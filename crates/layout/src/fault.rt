@@ -26,13 +26,6 @@ pub struct TableFault {
     pub cause: Cause,
 }
 
-// How many nodes and entries a document has.
-#[derive(Clone, Copy, PartialEq, Eq, Debug)]
-pub struct Counts {
-    pub nodes: u32,
-    pub entries: u32,
-}
-
 impl TableFault {
     // The number of the refusal.
     pub const NUMBER: u8 = 9;

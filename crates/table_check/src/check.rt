@@ -9,13 +9,13 @@ ghost use Rattle.layout.proofs.Steps.{Judges};
 ghost use Rattle.table_check.specs.Given.{given};
 use super::source::Source;
 use layout::fault::Cause;
-use layout::fault::Counts;
 use layout::fault::Table;
 use layout::fault::TableFault;
 use layout::rows::IdentRow;
 use layout::rows::NodeRow;
 use layout::rows::Part;
 use layout::rows::ValueRow;
+use tree::counts::Counts;
 
 fn lies_in(text: &[u8], part: Part) -> bool
     ensures { λ r. ⌜ r ≡ in-text (now (text .entry)) part ⌝ }

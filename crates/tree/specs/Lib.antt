@@ -4,3 +4,4 @@ pub mod Numbers
 pub mod Limits
 pub mod Lent
 pub mod Outcome
+pub mod Counts

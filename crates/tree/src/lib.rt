@@ -1,3 +1,4 @@
+pub mod counts;
 pub mod handle;
 pub mod interface;
 pub mod span;

@@ -5,7 +5,7 @@ use Rattle.std.proofs.shelf.Results.{err-from-errBy}
 use Rattle.std.specs.declared.result.Result.{Result}
 use Rattle.layout.specs.Tables.{checked}
 use Rattle.layout.specs.Layout.{Exact, Unique}
-use Rattle.layout.specs.declared.fault.Counts.{Counts}
+use Rattle.tree.specs.declared.counts.Counts.{Counts}
 use Rattle.layout.specs.declared.fault.TableFault.{TableFault}
 use Rattle.layout.proofs.Reading.{exact, unique}
 use Rattle.layout.proofs.Checking.{checked-by}
