@@ -12,10 +12,16 @@ use Rattle.tree.specs.declared.counts.Counts.{Counts}
 use Rattle.tree.specs.Counts.{counts-of}
 use Rattle.tree.specs.Document.{Nodes, nil, handle-in}
 use Rattle.tree.specs.Limits.{node-numbers, entry-numbers}
-use Rattle.index.specs.Links.{link, entry-link}
+use Rattle.tree.specs.Numbers.{Rising}
+use Rattle.index.specs.declared.keyed.Keyed.{Keyed}
+use Rattle.index.specs.declared.link.NodeLink.{NodeLink}
+use Rattle.index.specs.declared.link.EntryLink.{EntryLink}
+use Rattle.index.specs.Keys.{keys}
+use Rattle.index.specs.Links.{link, entry-link, links-of, entry-links-of}
+use Rattle.index.proofs.Linked.{link-keys, entry-link-keys}
 use Rattle.records.proofs.Cutting.{record-long}
 use Rattle.image_format.specs.Writing.{nodes-of}
-use Rattle.image_format.proofs.Standing.{climbs-few, nodes-climb, entries-climb}
+use Rattle.image_format.proofs.Standing.{climbs-few, climbs-rising, nodes-climb, entries-climb}
 use Rattle.image_format.proofs.Linking.{Both, onto, node-links, entry-rows, all-links, all-entry-links}
 use Rattle.tree.specs.Going.{all-spots, all-entries}
 use Rattle.tree.specs.Outcome.{over}
@@ -86,3 +92,36 @@ told-fault bs c h = go (image bs) h
 
 pub bytes-from : (bs : List ℕ) → ((k : ℕ) → getD bs k 0 < 256) → Bytes bs
 bytes-from bs h = all-from-getD (λ x. x < 256) bs 0 (λ k l. h k)
+
+-- what a keeper was told are the links of the document
+pub told-links : (bs : List ℕ) (y : Both) → Ok y ≡ over (onto None ([], [])) (image bs) → (y .0 ≡ links-of (document-in bs)) × (y .1 ≡ entry-links-of (document-in bs))
+told-links bs y h = go (image bs) h
+  where
+    go : (o : Read Nodes) → Ok y ≡ over (onto None ([], [])) o → (y .0 ≡ links-of (held o)) × (y .1 ≡ entry-links-of (held o))
+    go (Ok doc) k =
+        let same : y ≡ (node-links None doc, entry-rows doc) = ok-ok k in
+        (ap (λ (z : Both). z .0) same ∙ all-links doc, ap (λ (z : Both). z .1) same ∙ all-entry-links doc)
+    go (Err c) k = err-ok c y (sym k)
+
+-- without a document there are no links
+pub no-links : (bs : List ℕ) (c : RecordFault) → Err c ≡ over (onto None ([], [])) (image bs) → ([] ≡ links-of (document-in bs)) × ([] ≡ entry-links-of (document-in bs))
+no-links bs c h = go (image bs) h
+  where
+    go : (o : Read Nodes) → Err c ≡ over (onto None ([], [])) o → ([] ≡ links-of (held o)) × ([] ≡ entry-links-of (held o))
+    go (Ok doc) k = err-ok c _ k
+    go (Err d) k = (all-links nil, all-entry-links nil)
+
+-- the handles in the links rise
+pub nodes-rise : (bs : List ℕ) → Bytes bs → (xs : List (Keyed NodeLink)) → xs ≡ links-of (document-in bs) → Rising (keys xs)
+nodes-rise bs b xs is = go (image bs) refl is
+  where
+    go : (o : Read Nodes) → image bs ≡ o → xs ≡ links-of (held o) → Rising (keys xs)
+    go (Ok doc) e k = subst Rising (sym (ap keys k ∙ link-keys (all-spots doc))) (climbs-rising 6 (6 + length (nodes-of doc)) (node-numbers (all-spots doc)) (nodes-climb doc (accepted bs doc b e .stand)))
+    go (Err c) e k = subst Rising (ap keys (all-links nil ∙ sym k)) (climbs-rising 0 0 [] (omega arith))
+
+pub entries-rise : (bs : List ℕ) → Bytes bs → (xs : List (Keyed EntryLink)) → xs ≡ entry-links-of (document-in bs) → Rising (keys xs)
+entries-rise bs b xs is = go (image bs) refl is
+  where
+    go : (o : Read Nodes) → image bs ≡ o → xs ≡ entry-links-of (held o) → Rising (keys xs)
+    go (Ok doc) e k = subst Rising (sym (ap keys k ∙ entry-link-keys (all-entries doc))) (climbs-rising 6 (6 + length (nodes-of doc)) (entry-numbers (all-entries doc)) (entries-climb doc (accepted bs doc b e .stand)))
+    go (Err c) e k = subst Rising (ap keys (all-entry-links nil ∙ sym k)) (climbs-rising 0 0 [] (omega arith))
