@@ -7,3 +7,4 @@ pub mod Filling
 pub mod Checking
 pub mod Making
 pub mod Answering
+pub mod LaidOut

@@ -31,6 +31,7 @@ use Rattle.layout.specs.declared.fault.Table.{Table}
 use Rattle.layout.specs.declared.fault.Cause.{Cause}
 use Rattle.layout.specs.declared.fault.TableFault.{TableFault}
 use Rattle.tree.specs.declared.counts.Counts.{Counts}
+use Rattle.layout.proofs.LaidOut.{lays-out}
 use Rattle.layout.proofs.Steps.{Passed, passed, no-cause, let-through, Fit, rows-none, closed}
 use Rattle.layout.proofs.Laying.{total, total-append, total-is, say-append, says-length, say-length, said, said-at, line-after, picked-length, spots-some, spots-none, Lays, lays}
 
@@ -319,6 +320,7 @@ made t doc e = record {
   is = e;
   sound = λ d l. e ∙ ap held (read-laid t d l);
   unsound = λ none. e ∙ go (read t) refl none;
+  back = λ d f same. e ∙ ap held (read-laid t d (subst (λ x. Laid x d) (sym same) (lays-out d f)));
 }
   where
     go : (o : Result Nodes TableFault) → read t ≡ o → ((d : Nodes) → Laid t d → ⊥) → held o ≡ nil

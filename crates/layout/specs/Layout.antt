@@ -13,6 +13,7 @@ use Rattle.tree.specs.Going.{Spot, spots-in, all-spots, all-entries}
 use Rattle.layout.specs.Rows.{Tables, in-text, perhaps-in-text, value-known, head}
 use Rattle.tree.specs.Counts.{counts-of}
 use Rattle.layout.specs.Tables.{read, document}
+use Rattle.layout.specs.Laid.{laid-out, Fits}
 use Rattle.layout.specs.declared.rows.NodeRow.{NodeRow}
 use Rattle.layout.specs.declared.rows.EntryRow.{EntryRow}
 use Rattle.layout.specs.declared.fault.TableFault.{TableFault}
@@ -83,3 +84,5 @@ pub record Made (t : Tables) (doc : Nodes) : Type 0 where
   pub is : doc ≡ document t
   pub sound : (laid : Nodes) → Laid t laid → doc ≡ laid
   pub unsound : ((laid : Nodes) → Laid t laid → ⊥) → doc ≡ nil
+  -- laying a document out and reading it back gives the document
+  pub back : (d : Nodes) → Fits d → t ≡ laid-out d → doc ≡ d

@@ -1,4 +1,5 @@
 pub mod Rows
 pub mod Tables
 pub mod Layout
+pub mod Laid
 pub mod Typed
