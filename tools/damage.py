@@ -1,11 +1,17 @@
 #!/usr/bin/env python3
 """Makes test cases for the check of images: sound images and damaged ones.
 
-Usage: damage.py --seed SEED --count COUNT [FILE...]
+Usage: damage.py --seed SEED --count COUNT [--against PROGRAM] [FILE...]
 
 Each FILE is a sound image; docs/IMAGE.md gives the format. Prints COUNT lines
 of hex, one image a line, no two alike; the empty image is an empty line. The
 same seed, count and files give the same lines.
+
+With --against the lines are given to PROGRAM on its standard input, many at a
+time, and besides them large and deep images. The lines that it prints are
+compared with the answers of image_check.py; the last line tells how many
+cases there were and in how many of them the two differ. A difference fails.
+Without a FILE the images are then those of the texts in examples/.
 
 First come the files as they are, then single damages of each file at every
 offset and every record; where these are more than two thirds of COUNT, that
@@ -16,8 +22,23 @@ several damages in one image, and nodes nested about as deep as is allowed.
 
 import argparse
 import hashlib
+import itertools
+import pathlib
 import struct
+import subprocess
 import sys
+
+sys.dont_write_bytecode = True
+
+import image_check
+import kdl2image
+
+EXAMPLES = pathlib.Path(__file__).resolve().parent / 'examples'
+# How many lines, and about how many bytes of images, a run of the program is given.
+BATCH_LINES = 20000
+BATCH_BYTES = 1 << 24
+# How many differences are shown.
+SHOWN = 20
 
 HEAD = 6
 # The bytes before the parts, of the kinds that hold parts.
@@ -463,10 +484,152 @@ def cases(seed, count, images):
         yield random_case(random, trees)
 
 
+def distinct(made, count):
+    """The first `count` of the images, no two alike."""
+    seen = set()
+    if count <= 0:
+        return
+    for case in made:
+        mark = hashlib.blake2b(case, digest_size=12).digest()
+        if mark in seen:
+            continue
+        seen.add(mark)
+        yield case
+        if len(seen) == count:
+            break
+
+
+# Large and deep images.
+
+def head(length, kind):
+    return struct.pack('<IH', length, kind)
+
+
+def sized_by_text(size):
+    """The image of a node with one string, of so many bytes."""
+    empty = (1, b'', ((2, ZERO, (NAME, (5, ZERO, (leaf(7, b''),)))),))
+    text = bytes(size - len(written(empty)))
+    return written((1, b'', ((2, ZERO, (NAME, (5, ZERO, (leaf(7, text),)))),)))
+
+
+def sized_by_nodes(size):
+    """The image of as many nodes as fit, of so many bytes; the first has the longer name."""
+    node = written((2, ZERO, (NAME,)))
+    count, rest = divmod(size - HEAD, len(node))
+    first = written((2, ZERO, (leaf(3, ZERO + bytes(rest)),)))
+    return head(size, 1) + first + node * (count - 1)
+
+
+def sized_by_entries(size):
+    """The image of a node with as many entries as fit, of so many bytes."""
+    entry = written((5, ZERO, (leaf(11, b''),)))
+    rest = size - HEAD - HEAD - len(ZERO) - len(written(NAME))
+    count, rest = divmod(rest, len(entry))
+    name = written(leaf(3, ZERO + bytes(rest)))
+    return head(size, 1) + head(size - HEAD, 2) + ZERO + name + entry * count
+
+
+def nested(count, inner):
+    """A document of nodes in one another, the innermost with the records `inner` behind its name."""
+    node = (2, ZERO, (NAME,) + inner)
+    for _ in range(count - 1):
+        node = (2, ZERO, (NAME, (1, b'', (node,))))
+    return written((1, b'', (node,)))
+
+
+def holding_the_rest(size, rows):
+    """A document of at most so many bytes that are heads, each of which says that it holds the rest.
+
+    `rows` are the kinds in turn, each with what stands between its head and the next.
+    """
+    step = sum(HEAD + len(between) for _, between in rows)
+    count = (size - HEAD) // step
+    left = HEAD + count * step
+    made = [head(left, 1)]
+    left -= HEAD
+    for _ in range(count):
+        for kind, between in rows:
+            made.append(head(left, kind) + between)
+            left -= HEAD + len(between)
+    return b''.join(made)
+
+
+def large_cases():
+    largest = image_check.LARGEST_IMAGE
+    for make in (sized_by_text, sized_by_nodes, sized_by_entries, bytes):
+        yield make(largest)
+        yield make(largest + 1)
+    for count in (31, 32, 33, 34, 100):
+        for inner in ((), ((1, b'', ()),), ((5, ZERO, (leaf(11, b''),)), (1, b'', ()))):
+            yield nested(count, inner)
+    name = written(NAME)
+    for rows in (
+        [(1, b'')],
+        [(2, ZERO)],
+        [(2, ZERO + name)],
+        [(2, ZERO + name), (1, b'')],
+        [(2, ZERO + name), (5, ZERO)],
+        [(2, ZERO + name), (6, ZERO + name)],
+        [(5, ZERO)],
+        [(6, ZERO + name)],
+        [(7, b'')],
+    ):
+        yield holding_the_rest(largest, rows)
+
+
+# The comparison with a program.
+
+def batches(made):
+    lines = []
+    size = 0
+    for case in made:
+        lines.append(case)
+        size += len(case)
+        if len(lines) == BATCH_LINES or size >= BATCH_BYTES:
+            yield lines
+            lines = []
+            size = 0
+    if lines:
+        yield lines
+
+
+def against(program, made):
+    """Compares the program's lines with the answers; true where all are the same."""
+    compared = 0
+    differences = 0
+    smallest = None
+    for batch in batches(made):
+        text = b''.join(case.hex().encode() + b'\n' for case in batch)
+        run = subprocess.run([program], input=text, stdout=subprocess.PIPE)
+        given = run.stdout.decode('utf-8', 'replace').splitlines()
+        if run.returncode != 0 or len(given) != len(batch):
+            print(f'{program} ended with {run.returncode} and printed {len(given)} lines for {len(batch)}')
+            given += ['nothing'] * (len(batch) - len(given))
+        for case, line in zip(batch, given):
+            compared += 1
+            expected = image_check.answer(case)
+            if line != expected:
+                differences += 1
+                if smallest is None or len(case) < len(smallest[0]):
+                    smallest = (case, line, expected)
+                if differences <= SHOWN:
+                    print(f'{shown(case)}: {line}, expected {expected}')
+    if smallest is not None:
+        case, line, expected = smallest
+        print(f'smallest: {shown(case)}: {line}, expected {expected}')
+    print(f'{compared} cases, {differences} disagreements')
+    return differences == 0
+
+
+def shown(case):
+    return case.hex() if len(case) <= 200 else f'{case[:200].hex()}.. of {len(case)} bytes'
+
+
 def main():
     parser = argparse.ArgumentParser(description='Makes sound and damaged images as lines of hex.')
     parser.add_argument('--seed', type=int, required=True)
     parser.add_argument('--count', type=int, required=True)
+    parser.add_argument('--against', metavar='PROGRAM')
     parser.add_argument('files', nargs='*', metavar='FILE')
     options = parser.parse_args()
     images = []
@@ -479,16 +642,13 @@ def main():
             print(f'{path}: not a sound image ({error})', file=sys.stderr)
             return 1
         images.append(image)
-    seen = set()
-    if options.count > 0:
-        for case in cases(options.seed, options.count, images):
-            mark = hashlib.blake2b(case, digest_size=12).digest()
-            if mark in seen:
-                continue
-            seen.add(mark)
-            print(case.hex())
-            if len(seen) == options.count:
-                break
+    if options.against is not None and not images:
+        images = [kdl2image.image_of(text.read_bytes()) for text in sorted(EXAMPLES.glob('*.kdl'))]
+    made = distinct(cases(options.seed, options.count, images), options.count)
+    if options.against is not None:
+        return 0 if against(options.against, itertools.chain(large_cases(), made)) else 1
+    for case in made:
+        print(case.hex())
     return 0
 
 

@@ -7,3 +7,4 @@ pub mod Passing
 pub mod Linking
 pub mod Standing
 pub mod Made
+pub mod Within

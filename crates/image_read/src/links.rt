@@ -18,11 +18,17 @@ fn keep_all(heap: Global, bytes: &[u8]) -> Result<Keeper, AllocError>
     ensures nodes { λ r. ⌜ made r (λ k. vec-items (k .nodes) ≡ links-of (document-in (now (bytes .entry)))) ⌝ }
     ensures entries { λ r. ⌜ made r (λ k. vec-items (k .entries) ≡ entry-links-of (document-in (now (bytes .entry)))) ⌝ }
 {
-    let mut keeper = Keeper { nodes: Vec::new(heap), entries: Vec::new(heap) };
+    let mut keeper = Keeper {
+        nodes: Vec::new(heap),
+        entries: Vec::new(heap),
+    };
     match tell_image(bytes, &mut keeper) {
         Ok(()) => Ok(keeper),
         Err(stop) => match stop {
-            Stop::Fault(_) => Ok(Keeper { nodes: Vec::new(heap), entries: Vec::new(heap) }),
+            Stop::Fault(_) => Ok(Keeper {
+                nodes: Vec::new(heap),
+                entries: Vec::new(heap),
+            }),
             Stop::Heap => Err(AllocError),
         },
     }

@@ -12,50 +12,16 @@ use Rattle.std.specs.declared.option.Option.the-variants.{Some, None}
 use Rattle.tree.specs.declared.handle.NodeHandle.{NodeHandle}
 use Rattle.tree.specs.Document.{Ident, Value, null, string, integer, float, bool, Entry, Head, Nodes, handle-in, head-in, block-in, is-block}
 use Rattle.tree.specs.Going.{Spot, spots-in, all-spots, all-entries, entries-of, entries-from as entry-spots}
-use Rattle.layout.specs.Rows.{Tables, tables, piece, in-text, perhaps, perhaps-in-text, value, value-known, entry, entries-from, picked, head}
+use Rattle.tree.proofs.Standing.{At, left, right, cuts, ends}
+use Rattle.layout.specs.Rows.{Tables, tables, in-text, perhaps, perhaps-in-text, value, value-known, entry, entries-from, picked, head}
 use Rattle.layout.specs.declared.rows.NodeRow.{NodeRow}
 use Rattle.layout.specs.declared.rows.EntryRow.{EntryRow}
 use Rattle.layout.specs.Layout.{Says, rows-say, nodes-say, NodeParts, EntryParts, Laid}
 use Rattle.layout.specs.Laid.{perhaps-text, value-text, part-at, perhaps-row, value-row, entry-text, entry-row, entries-text, entry-rows, node-text, node-row, nodes-text, node-rows, own-entries, laid-out, NodesNumbered, EntriesNumbered, Fits}
 
--- xs stand in ys from at on
-record At {X : Type 0} (ys : List X) (at : ℕ) (xs : List X) : Type 0 where
-  pub before : List X
-  pub behind : List X
-  pub whole : ys ≡ before ++ (xs ++ behind)
-  pub long : length before ≡ at
-
-left : {X : Type 0} (ys : List X) (at : ℕ) (xs zs : List X) → At ys at (xs ++ zs) → At ys at xs
-left ys at xs zs a = record { before = a .before; behind = zs ++ a .behind; whole = a .whole ∙ ap (λ l. a .before ++ l) (append-assoc xs zs (a .behind)); long = a .long }
-
-right : {X : Type 0} (ys : List X) (at : ℕ) (xs zs : List X) → At ys at (xs ++ zs) → At ys (at + length xs) zs
-right ys at xs zs a = record {
-  before = a .before ++ xs;
-  behind = a .behind;
-  whole = a .whole ∙ ap (λ l. a .before ++ l) (append-assoc xs zs (a .behind)) ∙ sym (append-assoc (a .before) xs (zs ++ a .behind));
-  long = length-append (a .before) xs ∙ ap (λ n. n + length xs) (a .long);
-}
-
-drops : {X : Type 0} (a b : List X) → drop (length a) (a ++ b) ≡ b
-drops [] b = refl
-drops (x ∷ a) b = drops a b
-
-takes : {X : Type 0} (a b : List X) → take (length a) (a ++ b) ≡ a
-takes [] b = refl
-takes (x ∷ a) b = ap (λ l. x ∷ l) (takes a b)
-
--- they are what is cut out there
-cuts : {X : Type 0} (ys : List X) (at : ℕ) (xs : List X) → At ys at xs → take (length xs) (drop at ys) ≡ xs
-cuts ys at xs a =
-    ap (λ n. take (length xs) (drop n ys)) (sym (a .long)) ∙ ap (λ l. take (length xs) (drop (length (a .before)) l)) (a .whole) ∙ ap (take (length xs)) (drops (a .before) (xs ++ a .behind)) ∙ takes xs (a .behind)
-
--- and they lie in it
+-- what stands in a text lies in it
 inside : (ys : List ℕ) (at : ℕ) (xs : List ℕ) → At ys at xs → in-text ys (part-at at xs) ≡ true
-inside ys at xs a =
-    let l = ap length (a .whole) ∙ length-append (a .before) (xs ++ a .behind) in
-    let m = length-append xs (a .behind) in
-    let n = a .long in
-    le-leb (at + length xs) (length ys) (omega arith)
+inside ys at xs a = le-leb (at + length xs) (length ys) (ends ys at xs a)
 
 module _ (t : List ℕ) where
   perhaps-is : (at : ℕ) (o : Option Ident) → At t at (perhaps-text o) → perhaps t (perhaps-row at o) ≡ o
@@ -120,9 +86,10 @@ module _ (t : List ℕ) where
   all-node-parts at k [] a = tt
   all-node-parts at k (s ∷ ss) a =
       let h = head-in (s .self) in
-      let mine = left t at (node-text h) (nodes-text ss) a in
-      (record { name = inside t at (h .name .bytes) (left t at (h .name .bytes) (perhaps-text (h .type)) mine); type = perhaps-inside _ (h .type) (right t at (h .name .bytes) (perhaps-text (h .type)) mine) },
-        all-node-parts (at + length (node-text h)) (k + length (h .entries)) ss (right t at (node-text h) (nodes-text ss) a))
+      let mine = left t at (node-text h) (nodes-text ss) a in (
+        record { name = inside t at (h .name .bytes) (left t at (h .name .bytes) (perhaps-text (h .type)) mine); type = perhaps-inside _ (h .type) (right t at (h .name .bytes) (perhaps-text (h .type)) mine) },
+        all-node-parts (at + length (node-text h)) (k + length (h .entries)) ss (right t at (node-text h) (nodes-text ss) a),
+      )
 
 -- rows and text of entries, parted
 texts-append : (xs ys : List Entry) → entries-text (xs ++ ys) ≡ entries-text xs ++ entries-text ys
@@ -168,11 +135,11 @@ module _ (t : Tables) where
       let cut : take (length es) (drop k (t .entries)) ≡ entry-rows a es = ap (λ c. take c (drop k (t .entries))) (sym long) ∙ cuts (t .entries) k (entry-rows a es) my-rows in
       let entries : picked t k (length es) ≡ es = ap (entries-from (t .text) k) cut ∙ entries-are (t .text) a k es (left (t .text) a (entries-text es) (entries-text others) texts) (numbered-left k es others m) in
       let more = nodes-are (suc i) (at + length (node-text h)) a′ (k + length es) ss
-        (right (t .text) at (node-text h) (nodes-text ss) x)
-        (right (t .text) a (entries-text es) (entries-text others) texts)
-        (subst (λ c. At (t .entries) (k + c) (entry-rows a′ others)) long (right (t .entries) k (entry-rows a es) (entry-rows a′ others) rows))
-        (n .1)
-        (numbered-right k es others m) in
+      (right (t .text) at (node-text h) (nodes-text ss) x)
+      (right (t .text) a (entries-text es) (entries-text others) texts)
+      (subst (λ c. At (t .entries) (k + c) (entry-rows a′ others)) long (right (t .entries) k (entry-rows a es) (entry-rows a′ others) rows))
+      (n .1)
+      (numbered-right k es others m) in
       λ j. record {
         handle = sym (n .0) j;
         head = record { name = record { bytes = name j; span = h .name .span }; type = type j; span = h .span; entries = entries j };
