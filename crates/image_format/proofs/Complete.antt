@@ -95,7 +95,7 @@ value-reads at (bool true) rest fits short = by-value 10 at (1 ∷ []) rest (boo
 value-reads at (bool false) rest fits short = by-value 10 at (0 ∷ []) rest (bool false) (omega arith) short refl
 value-reads at null rest fits short = by-value 11 at [] rest null (omega arith) short refl
 
-value-next : (v : Value) (rest : List ℕ) → eqb (next-kind (value-of v ++ rest)) 4 ≡ false
+pub value-next : (v : Value) (rest : List ℕ) → eqb (next-kind (value-of v ++ rest)) 4 ≡ false
 unfolding value-of
 value-next (string b) rest = rw (next-record 7 b rest (omega arith))
 value-next (integer n) rest = rw (next-record 8 (low 8 (n .low) ++ low 8 (unsigned (n .high))) rest (omega arith))
@@ -106,7 +106,7 @@ value-next null rest = rw (next-record 11 [] rest (omega arith))
 entry-body : Entry → List ℕ
 entry-body e = span-of (e .span) ++ (perhaps-of 3 (e .name) ++ (perhaps-of 4 (e .type) ++ value-of (e .value)))
 
-kind-small : (o : Option Ident) → entry-kind o < 65536
+pub kind-small : (o : Option Ident) → entry-kind o < 65536
 kind-small None = omega arith
 kind-small (Some i) = omega arith
 
@@ -191,7 +191,7 @@ unfolding record-of
 block-next no-block = (refl, refl)
 block-next (block ns) = (refl, refl)
 
-entries-next : (es : List Entry) (b : Block) → eqb (next-kind (entries-of es ++ block-of b)) 4 ≡ false
+pub entries-next : (es : List Entry) (b : Block) → eqb (next-kind (entries-of es ++ block-of b)) 4 ≡ false
 entries-next [] b = block-next b .1
 entries-next (e ∷ es) b =
     ap (λ w. eqb (next-kind w) 4) (append-assoc (entry-of e) (entries-of es) (block-of b))

@@ -8,3 +8,5 @@ pub mod Linking
 pub mod Standing
 pub mod Made
 pub mod Within
+pub mod Payload
+pub mod Answering

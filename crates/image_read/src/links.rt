@@ -1,8 +1,10 @@
 // The links of the nodes and entries of an image.
 ghost use mathlib.Core.Path.{_≡_};
+ghost use mathlib.Core.Bool.{true};
 ghost use Rattle.std.specs.Of.Vec.{vec-items};
 ghost use Rattle.std.specs.Vec.{made};
 ghost use Rattle.index.specs.Links.{links-of, entry-links-of};
+ghost use Rattle.records.specs.Numbers.{are-bytes};
 ghost use Rattle.image_format.specs.Reading.{document-in};
 ghost use Rattle.image_format.specs.Law.{Made};
 use super::sink::Keeper;
@@ -36,6 +38,7 @@ fn keep_all(heap: Global, bytes: &[u8]) -> Result<Keeper, AllocError>
 
 // The links of the document that the bytes make, and what is known of that document. Only memory can be wanting.
 pub fn link(heap: Global, bytes: &[u8]) -> Result<Links, AllocError>
+    ensures typed { λ _. ⌜ are-bytes (now (bytes .entry)) ≡ true ⌝ }
     ensures law { λ _. ⌜ Made (now (bytes .entry)) (document-in (now (bytes .entry))) ⌝ }
     ensures nodes { λ r. ⌜ made r (λ l. ∥ vec-items (l .nodes .items) ≡ links-of (document-in (now (bytes .entry))) ∥₁) ⌝ }
     ensures entries { λ r. ⌜ made r (λ l. ∥ vec-items (l .entries .items) ≡ entry-links-of (document-in (now (bytes .entry))) ∥₁) ⌝ }

@@ -21,7 +21,8 @@ use Rattle.layout.specs.declared.rows.NodeRow.{NodeRow}
 use Rattle.layout.specs.declared.rows.EntryRow.{EntryRow}
 use Rattle.layout.specs.declared.fault.TableFault.{TableFault}
 use Rattle.layout.proofs.Reading.{laid}
-use Rattle.layout.proofs.Placed.{NodeStands, node-stands, EntryStands, entry-stands, spot-found, entry-found}
+use Rattle.index.proofs.Found.{none-some, spot-found, entry-found}
+use Rattle.layout.proofs.Placed.{NodeStands, node-stands, EntryStands, entry-stands}
 
 -- o is a node, and r the row that says what it is
 pub record NodeTold (t : Tables) (o : Option Spot) (r : NodeRow) : Type 0 where
@@ -35,9 +36,6 @@ pub record EntryTold (t : Tables) (o : Option EntrySpot) (k : ℕ) (r : EntryRow
   pub is : o ≡ Some spot
   pub says : spot .self ≡ entry (t .text) k r
   pub parts : EntryParts (t .text) r
-
-none-some : {X Y : Type 0} (x : X) → _≡_ {A = Option X} None (Some x) → Y
-none-some x e = absurd (let z : _≡_ {A = ℕ} 0 1 = cc in omega arith)
 
 -- a node that is found stands in the row of its number
 pub node-told : (t : Tables) (n : NodeHandle) (s : Spot) → found (document t) n ≡ Some s → (n .number < length (t .nodes)) × NodeTold t (found (document t) n) (row t (n .number))
@@ -77,16 +75,3 @@ entry-told t n s e = go (read t) refl e
             parts = all-getD (EntryParts (t .text)) (t .entries) (n .number) blank-entry inside (l .entry-parts);
           },
         )
-
--- what is linked is found
-pub record Met {X : Type 0} (o : Option X) : Type 0 where
-  pub value : X
-  pub is : o ≡ Some value
-
-pub met : {X Y : Type 0} (f : X → Y) (o : Option X) (y : Y) → Some y ≡ mapped f o → Met o
-met f None y e = none-some y (sym e)
-met f (Some x) y e = record { value = x; is = refl }
-
-pub unmet : {X Y : Type 0} (f : X → Y) (o : Option X) → None ≡ mapped f o → o ≡ None
-unmet f None e = refl
-unmet f (Some x) e = none-some (f x) e

@@ -55,23 +55,6 @@ upto-append n (suc a) b =
     let f : n + suc a ≡ suc n + a = omega arith in
     ap (λ k. n ∷ (upto (suc n) a ++ upto k b)) f ∙ ap (λ l. n ∷ l) (upto-append (suc n) a b) ∙ ap (upto n) (sym e)
 
--- what is found is among what is searched, and has the number
-pub spot-found : (P : Spot → Type 0) (ss : List Spot) (n : ℕ) (s : Spot) → All P ss → find-spot ss n ≡ Some s → P s × (handle-in (s .self) .number ≡ n)
-spot-found P [] n s a e = absurd (let z : _≡_ {A = ℕ} 0 1 = cc in omega arith)
-spot-found P (x ∷ ss) n s a e = go (eqb (handle-in (x .self) .number) n) refl (spot-found P ss n s (a .1)) e
-  where
-    go : (b : Bool) → eqb (handle-in (x .self) .number) n ≡ b → (find-spot ss n ≡ Some s → P s × (handle-in (s .self) .number ≡ n)) → cond b (Some x) (find-spot ss n) ≡ Some s → P s × (handle-in (s .self) .number ≡ n)
-    go true q ih is = let same : x ≡ s = cc in subst (λ y. P y × (handle-in (y .self) .number ≡ n)) same (a .0, eqb-true _ _ q)
-    go false q ih is = ih is
-
-pub entry-found : (P : EntrySpot → Type 0) (ss : List EntrySpot) (n : ℕ) (s : EntrySpot) → All P ss → find-entry ss n ≡ Some s → P s × (s .self .handle .number ≡ n)
-entry-found P [] n s a e = absurd (let z : _≡_ {A = ℕ} 0 1 = cc in omega arith)
-entry-found P (x ∷ ss) n s a e = go (eqb (x .self .handle .number) n) refl (entry-found P ss n s (a .1)) e
-  where
-    go : (b : Bool) → eqb (x .self .handle .number) n ≡ b → (find-entry ss n ≡ Some s → P s × (s .self .handle .number ≡ n)) → cond b (Some x) (find-entry ss n) ≡ Some s → P s × (s .self .handle .number ≡ n)
-    go true q ih is = let same : x ≡ s = cc in subst (λ y. P y × (y .self .handle .number ≡ n)) same (a .0, eqb-true _ _ q)
-    go false q ih is = ih is
-
 -- a node stands in the row of its number
 pub record NodeStands (t : Tables) (s : Spot) : Type 0 where
   pub inside : handle-in (s .self) .number < length (t .nodes)

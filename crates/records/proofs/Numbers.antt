@@ -1,5 +1,6 @@
 -- Writing numbers and reading them are one another's inverse. Assumes nothing.
 use mathlib.Core.Path.{_≡_, refl, sym, ap, _∙_}
+use mathlib.Core.Bool.{Bool, true, false, _&&_}
 use mathlib.Core.List.{List, [], _∷_, _++_}
 use Prim.Native.Nat.{ℕ, zero, suc, _+_, _*_, _/_, _%_, _^_, _≤_, _<_}
 use native.Mathlib.Omega.{arith}
@@ -7,7 +8,9 @@ use native.Mathlib.Nat.{pow-succ'}
 use lib.ListN.{length, take}
 use lib.Seq.{length-take-le}
 use Rattle.std.proofs.shelf.Elements.{all-take}
-use Rattle.records.specs.Numbers.{Bytes, number, low}
+use lib.Dec.{ltb}
+use Rattle.std.proofs.shelf.Tests.{lt-ltb, ltb-true, false≢true}
+use Rattle.records.specs.Numbers.{Bytes, number, low, are-bytes}
 
 pub low-number : (xs : List ℕ) → Bytes xs → low (length xs) (number xs) ≡ xs
 low-number [] b = refl
@@ -53,3 +56,15 @@ bytes-right (x ∷ xs) ys b = bytes-right xs ys (b .1)
 pub bytes-left : (xs ys : List ℕ) → Bytes (xs ++ ys) → Bytes xs
 bytes-left [] ys b = tt
 bytes-left (x ∷ xs) ys b = (b .0, bytes-left xs ys (b .1))
+
+pub bytes-are : (xs : List ℕ) → Bytes xs → are-bytes xs ≡ true
+bytes-are [] b = refl
+bytes-are (x ∷ xs) b = ap (λ c. c && are-bytes xs) (lt-ltb x 256 (b .0)) ∙ bytes-are xs (b .1)
+
+pub bytes-from-are : (xs : List ℕ) → are-bytes xs ≡ true → Bytes xs
+bytes-from-are [] e = tt
+bytes-from-are (x ∷ xs) e = go (ltb x 256) refl (bytes-from-are xs) e
+  where
+    go : (c : Bool) → ltb x 256 ≡ c → (are-bytes xs ≡ true → Bytes xs) → c && are-bytes xs ≡ true → Bytes (x ∷ xs)
+    go true h more k = (ltb-true x 256 h, more k)
+    go false h more k = absurd (false≢true k)

@@ -1,5 +1,7 @@
 -- Numbers in bytes, the lowest first. Assumes nothing.
+use mathlib.Core.Bool.{Bool, true, _&&_}
 use mathlib.Core.List.{List, [], _∷_}
+use lib.Dec.{ltb}
 use Prim.Native.Nat.{ℕ, zero, suc, _+_, _*_, _/_, _%_, _<_}
 use Rattle.std.specs.shelf.Lists.{All}
 
@@ -15,3 +17,8 @@ number (x ∷ xs) = x + 256 * number xs
 abbrev pub low : ℕ → ℕ → List ℕ
 low zero x = []
 low (suc n) x = x % 256 ∷ low n (x / 256)
+
+-- whether all are bytes
+abbrev pub are-bytes : List ℕ → Bool
+are-bytes [] = true
+are-bytes (x ∷ xs) = ltb x 256 && are-bytes xs

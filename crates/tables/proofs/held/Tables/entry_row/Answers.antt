@@ -2,7 +2,8 @@ use mathlib.Core.Path.{_≡_}
 use native.Mathlib.Omega.{arith}
 use Rattle.tree.specs.Going.{found-entry}
 use Rattle.index.specs.Links.{entry-link as link-at}
-use Rattle.layout.proofs.Answering.{met, unmet, entry-told}
+use Rattle.index.proofs.Found.{met, unmet}
+use Rattle.layout.proofs.Answering.{entry-told}
 use Rattle.table_check.specs.Given.{given as tables-in}
 use Rattle.tables.specs.Held.{meant}
 use Rattle.tables.proofs.held.Tables.entry_row.Needs as need
