@@ -145,8 +145,8 @@ pub impl Tree for Image<'_> as ImageTree {
 
     fn entry_type(&self, e: EntryHandle) -> Option<Identifier<'_>> {
         let entry = self.entry_at(e)?;
-        let rest = behind_entry_name(entry);
-        perhaps(kind_of(rest) == 4, rest)
+        let ty = behind_entry_name(entry);
+        perhaps(kind_of(ty) == 4, ty)
     }
 
     fn entry_value(&self, e: EntryHandle) -> Option<Value<'_>> {
