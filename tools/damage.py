@@ -11,7 +11,7 @@ With --against the lines are given to PROGRAM on its standard input, many at a
 time, and besides them large and deep images. The lines that it prints are
 compared with the answers of image_check.py; the last line tells how many
 cases there were and in how many of them the two differ. A difference fails.
-Without a FILE the images are then those of the texts in examples/.
+Without a FILE the images are then those of the texts crates/*/data/*.kdl.
 
 First come the files as they are, then single damages of each file at every
 offset and every record; where these are more than two thirds of COUNT, that
@@ -33,7 +33,7 @@ sys.dont_write_bytecode = True
 import image_check
 import kdl2image
 
-EXAMPLES = pathlib.Path(__file__).resolve().parent / 'examples'
+CRATES = pathlib.Path(__file__).resolve().parent.parent / 'crates'
 # How many lines, and about how many bytes of images, a run of the program is given.
 BATCH_LINES = 20000
 BATCH_BYTES = 1 << 24
@@ -643,7 +643,7 @@ def main():
             return 1
         images.append(image)
     if options.against is not None and not images:
-        images = [kdl2image.image_of(text.read_bytes()) for text in sorted(EXAMPLES.glob('*.kdl'))]
+        images = [kdl2image.image_of(text.read_bytes()) for text in sorted(CRATES.glob('*/data/*.kdl'))]
     made = distinct(cases(options.seed, options.count, images), options.count)
     if options.against is not None:
         return 0 if against(options.against, itertools.chain(large_cases(), made)) else 1

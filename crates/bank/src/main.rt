@@ -1,4 +1,5 @@
 // Opens a locker bank's tree and prints all that it did.
+mod opened;
 mod sample;
 mod show;
 
@@ -6,7 +7,11 @@ use layout::fault::Cause;
 use layout::fault::Table;
 use layout::fault::TableFault;
 use layout::rows::NodeRow;
+use opened::open_damaged;
+use opened::open_image;
 use show::show;
+use std::env;
+use std::fs;
 use std::io;
 use table_check::check::check;
 use table_check::source::Source;
@@ -78,5 +83,14 @@ fn main(rt: LibcRuntime) -> io::Result<()> {
             nodes: &nodes,
             entries: &sample::ENTRIES,
         },
-    )
+    )?;
+    // the image files that are named
+    let mut names = env::args(&rt)?;
+    let _ = names.next();
+    for name in names {
+        let mut bytes = fs::read(&rt, name.as_str())?;
+        open_image(&rt, "the image", &bytes)?;
+        open_damaged(&rt, &mut bytes)?;
+    }
+    Ok(())
 }
