@@ -1,4 +1,6 @@
 // Opens a locker bank's tree and prints all that it did.
+#![tactic(auto)]
+
 mod opened;
 mod sample;
 mod show;

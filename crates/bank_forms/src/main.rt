@@ -1,4 +1,6 @@
 // Opens a locker bank's forms, and prints all that it did.
+#![tactic(auto)]
+
 mod opened_forms;
 
 use opened_forms::{open_damaged_forms, open_forms, show_fixed};

@@ -1,5 +1,7 @@
 // Listed sets of forms: reads one in hexadecimal digits from each line, and prints the answer of the check and what the set answers that is made of
 // it; then the same of sets of 1 MiB.
+#![tactic(auto)]
+
 mod large;
 
 use common::cause::cause_name;

@@ -1,9 +1,9 @@
 -- The fixed set of forms. Assumes nothing.
-use Rattle.std.specs.Prelude.{◌≡◌, ℕ, ◌<◌, ◌≤◌, Bool, true, false, ◌&&◌, List, [], ◌∷◌, length, codes, nat_le, nat_lt, refl}
-use Rattle.std.proofs.Common.{arith, lit≤}
+use Rattle.std.specs.Prelude.{◌≡◌, ℕ, ◌<◌, Bool, true, ◌&&◌, List, [], ◌∷◌, length, codes, nat_le, nat_lt, refl}
+use Rattle.std.proofs.Common.{lit≤}
 use Rattle.std.specs.List.{AllByRecursion as All}
 use Rattle.std.proofs.lemmas.Bool.{ltb-true, leb-true, and_parts}
-use Rattle.forms.specs.Forms.{Form, NameFits, FormFits, Lawful}
+use Rattle.forms.specs.Forms.{Form, NameFits, Lawful}
 
 -- form 0 is a bank's, form 1 a door's
 abbrev pub fixed_forms : List Form

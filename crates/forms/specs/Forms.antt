@@ -1,5 +1,5 @@
 -- What a form is, and a list of forms. Assumes nothing.
-use Rattle.std.specs.Prelude.{ℕ, suc, ◌≤◌, Bool, true, false, cond, ◌||◌, List, [], ◌∷◌, length, Some, None, Option}
+use Rattle.std.specs.Prelude.{ℕ, suc, ◌≤◌, Bool, false, cond, ◌||◌, List, [], ◌∷◌, length, Some, None, Option}
 use Rattle.std.specs.List.{AllByRecursion as All}
 -- nth xs i is what stands at the position i of xs, counted from 0
 pub use Rattle.std.specs.List.{slice_get as nth}

@@ -1,4 +1,6 @@
 // The check of images: reads an image in hexadecimal digits from each line, and prints the answer.
+#![tactic(auto)]
+
 use common::cause::cause_name;
 use common::hex::bytes_of;
 use image_read::check::check;

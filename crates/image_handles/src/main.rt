@@ -1,4 +1,6 @@
 // Asks the tree of an image at every number from 0 to the end of the image, and at the highest, and prints all answers.
+#![tactic(auto)]
+
 mod shown;
 
 use image_load::load::load;

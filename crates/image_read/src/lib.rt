@@ -1,3 +1,5 @@
+#![tactic(auto)]
+
 pub mod check;
 mod cursor;
 pub mod links;

@@ -1,4 +1,6 @@
 // The check of images of 1 MiB: prints its answers; with a count of rounds as argument, prints how long check and making take instead.
+#![tactic(auto)]
+
 mod large;
 mod measure;
 

@@ -1,5 +1,5 @@
 -- Looking a handle up in the links of a document is finding it in the document. Assumes nothing.
-use Rattle.std.proofs.Common.{◌≡◌, ℕ, Bool, true, false, cond, eqb, List, [], ◌∷◌, ◌++◌, Some, None, Option, sym, refl, ap, ◌∙◌}
+use Rattle.std.proofs.Common.{◌≡◌, ℕ, Bool, true, false, cond, eqb, List, [], ◌∷◌, ◌++◌, Some, Option, refl, ap}
 use Rattle.std.specs.Option.{option_map}
 use Rattle.tree.specs.Document.{Nodes, nil, cons, handle_in}
 use Rattle.tree.specs.Going.{Spot, EntrySpot, spots, find_spot, find_entry, first_node}

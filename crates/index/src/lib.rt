@@ -1,3 +1,5 @@
+#![tactic(auto)]
+
 pub mod keyed;
 pub mod link;
 pub mod links;

@@ -1,5 +1,7 @@
 // Keys compared with names: reads a listed set of forms in hexadecimal digits from each line, and prints for each key which forms have it, and where
 // it stands in the fixed set.
+#![tactic(auto)]
+
 mod keys;
 
 use common::hex::bytes_of;

@@ -1,4 +1,6 @@
 // The laws of lists: each function's contract is one of them.
+#![tactic(auto)]
+
 ghost use Rattle.lists.specs.Partition.{Partition};
 ghost use Rattle.lists.specs.Placement.{Placement, KeysTold};
 ghost use Rattle.lists.specs.Stages.{Stages};

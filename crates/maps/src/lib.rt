@@ -1,3 +1,5 @@
+#![tactic(auto)]
+
 pub mod document;
 pub mod node;
 pub mod opening;

@@ -1,10 +1,9 @@
 -- Writing a record and cutting one off are one another's inverse. Assumes nothing.
-use Rattle.std.proofs.Common.{◌≡◌, ℕ, zero, suc, ◌+◌, ◌-◌, ◌*◌, ◌^◌, ◌<◌, ◌≤◌, Bool, true, false, cond, ◌||◌, eqb, ltb, ◌⊎◌, List, [], ◌∷◌, ◌++◌, length, get_or, take, drop, Some, None, Ok, Err, Option, Result, sym, refl, ap, ◌∙◌, subst, inl, inr, ⊎_elim, arith, length-append, length-drop, take-append-drop, length-take-le, take_all, take_at, drop_at}
+use Rattle.std.proofs.Common.{◌≡◌, ℕ, ◌+◌, ◌-◌, ◌*◌, ◌^◌, ◌<◌, ◌≤◌, Bool, true, false, cond, ◌||◌, eqb, ltb, ◌⊎◌, List, [], ◌∷◌, ◌++◌, length, get_or, take, drop, Some, None, Ok, Err, Option, sym, refl, ap, ◌∙◌, subst, ⊎_elim, arith, length-append, length-drop, take-append-drop, length-take-le, take_all, take_at, drop_at}
 use Rattle.std.proofs.ByRecursion.{All-take, All-drop}
 use Rattle.std.proofs.lemmas.Bool.{ne_eqb, lt-ltb, le-ltb, ltb-false, or_parts}
 use Rattle.records.specs.Numbers.{Bytes, number, low}
-use Rattle.records.specs.Records.{record_of, Mark, mark, none, kind_in, next_kind, Cut, cut_by, cut}
-use Rattle.records.specs.declared.fault.Cause.{Cause}
+use Rattle.records.specs.Records.{record_of, Mark, mark, none, next_kind, Cut, cut_by, cut}
 use Rattle.records.specs.declared.fault.Cause.TheVariants.{Missing, Length}
 use Rattle.records.proofs.Numbers.{low_number, number_low}
 use Rattle.records.proofs.Results.{err_ok, passes}

@@ -1,7 +1,7 @@
 -- The record that is found at a place is what was written there, and what was written is found. Assumes nothing.
 use Rattle.std.proofs.Common.{◌≡◌, ℕ, ◌+◌, ◌^◌, ◌<◌, eqb, List, [], ◌++◌, length, Ok, Err, Result, sym, refl, ap, ◌∙◌, subst, append_assoc, append-nil, arith, length-append}
 use Rattle.std.proofs.lemmas.Bool.{eq-eqb, ne_eqb, eqb-true}
-use Rattle.tree.specs.Outcome.{and_then, over}
+use Rattle.tree.specs.Outcome.{over}
 use Rattle.records.specs.declared.fault.Cause.{Cause}
 use Rattle.records.specs.declared.fault.Cause.TheVariants.{Kind}
 use Rattle.records.specs.Numbers.{Bytes}

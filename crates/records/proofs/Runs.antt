@@ -1,5 +1,5 @@
 -- How a result that code passes on by `?` follows the reading. Assumes nothing.
-use Rattle.std.proofs.Common.{◌≡◌, ℕ, Ok, Err, Result, sym, refl, ap, ◌∙◌, subst, arith}
+use Rattle.std.proofs.Common.{◌≡◌, Ok, Err, sym, refl, ap, ◌∙◌}
 use Rattle.records.specs.declared.fault.RecordFault.{RecordFault}
 use Rattle.tree.specs.Outcome.{and_then, over}
 use Rattle.records.specs.Places.{Read}

@@ -1,3 +1,5 @@
+#![tactic(auto)]
+
 pub mod cut;
 pub mod fault;
 pub mod stop;

@@ -1,3 +1,5 @@
+#![tactic(auto)]
+
 pub mod cause;
 pub mod content;
 pub mod laws;

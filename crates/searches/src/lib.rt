@@ -1,4 +1,6 @@
 // Searches of a tree by names, and the first of siblings and children.
+#![tactic(auto)]
+
 ghost use Rattle.std.specs.Prelude.{◌≡◌};
 ghost use Rattle.tree.specs.Document.{properties_in};
 ghost use Rattle.tree.specs.Going.{first, found, found_entry};

@@ -1,10 +1,10 @@
 -- A document has at most 2^32 nodes and at most 2^32 entries, since their numbers rise below 2^32. Assumes nothing.
-use Rattle.std.proofs.Common.{◌≡◌, ℕ, zero, suc, ◌+◌, ◌^◌, ◌<◌, ◌≤◌, ◌⊎◌, List, [], ◌∷◌, ◌++◌, map, length, get_or, Some, None, Option, sym, refl, ap, ◌∙◌, inl, inr, arith, length-append}
+use Rattle.std.proofs.Common.{◌≡◌, ℕ, zero, suc, ◌^◌, ◌<◌, ◌≤◌, List, [], ◌∷◌, map, length, get_or, Some, refl, ap, inl, inr, arith, length-append}
 use Rattle.std.specs.List.{AllByRecursion as All}
 use Rattle.std.proofs.lemmas.List.{length-map}
 use Rattle.tree.specs.declared.handle.NodeHandle.{NodeHandle}
 use Rattle.tree.specs.Document.{Entry, Nodes, handle_in, head_in}
-use Rattle.tree.specs.Going.{Spot, EntrySpot, all_spots, entries_from, entries_at, entries_of, all_entries, found}
+use Rattle.tree.specs.Going.{Spot, all_spots, entries_from, entries_at, entries_of, all_entries, found}
 use Rattle.tree.specs.Limits.{Lawful, NodeFits, EntryFits, node_numbers, entry_numbers}
 use Rattle.tree.specs.Numbers.{Rising}
 use Rattle.spots.proofs.Finding.{Among}

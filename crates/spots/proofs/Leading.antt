@@ -1,8 +1,8 @@
 -- The next sibling, the first child and the next entry stand in the document where they should. Assumes nothing.
-use Rattle.std.proofs.Common.{◌≡◌, ℕ, suc, ◌⊎◌, List, [], ◌∷◌, ◌++◌, Some, None, Option, sym, refl, ap, ◌∙◌, subst, inl, inr, ⊎_elim, append_assoc}
+use Rattle.std.proofs.Common.{◌≡◌, ℕ, suc, List, [], ◌∷◌, ◌++◌, Some, None, Option, sym, refl, ap, ◌∙◌, subst, inl, inr, ⊎_elim, append_assoc}
 use Rattle.tree.specs.declared.handle.NodeHandle.{NodeHandle}
 use Rattle.tree.specs.Document.{Entry, Node, node, Block, no_block, block, Nodes, nil, cons, handle_in, head_in, block_in, within, listed}
-use Rattle.tree.specs.Going.{Spot, EntrySpot, spots, spots_in, spots_of, all_spots, entries_from, entries_at, entries_of, all_entries}
+use Rattle.tree.specs.Going.{Spot, EntrySpot, spots, spots_in, spots_of, entries_from, entries_at, entries_of}
 use Rattle.spots.proofs.Finding.{none_some, Among, among_left, among_right, among_split, Leads, leads_more}
 
 abbrev next_from : Spot → List Node → Option Spot

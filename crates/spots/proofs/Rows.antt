@@ -1,13 +1,13 @@
 -- Siblings, children and entries, by handles. Assumes nothing.
-use Rattle.std.proofs.Common.{◌≡◌, ℕ, suc, ◌⊎◌, List, [], ◌∷◌, ◌++◌, Some, None, Option, sym, refl, ap, ◌∙◌, subst, inl, inr}
+use Rattle.std.proofs.Common.{◌≡◌, ℕ, suc, List, [], ◌∷◌, ◌++◌, Some, None, refl, ap, ◌∙◌}
 use Rattle.tree.specs.declared.handle.NodeHandle.{NodeHandle}
 use Rattle.tree.specs.declared.handle.EntryHandle.{EntryHandle}
 use Rattle.tree.specs.Document.{Entry, Node, Nodes, handle_in, head_in, block_in, within, listed}
-use Rattle.tree.specs.Going.{Spot, EntrySpot, spots, all_spots, all_entries, find_spot, found, find_entry, found_entry, first, first_of, first_node}
+use Rattle.tree.specs.Going.{Spot, EntrySpot, all_spots, all_entries, find_spot, found, find_entry, found_entry, first, first_of, first_node}
 use Rattle.tree.specs.Limits.{Lawful}
-use Rattle.spots.specs.Rows.{row_of, row, earlier_of, earlier, inner_of, inner, held_by, entry_row_of, entry_row}
-use Rattle.spots.proofs.Finding.{none_some, Among, find_among, find_sound}
-use Rattle.spots.proofs.Leading.{next_spot, inner_spot, top_spot, next_all, open_head, inner_all, Tells, whole_all, next_entry_spot, first_entry_spot, entry_next, entry_first, Owned, owned}
+use Rattle.spots.specs.Rows.{row_of, row, earlier_of, earlier, inner_of, held_by, entry_row_of, entry_row}
+use Rattle.spots.proofs.Finding.{Among, find_among, find_sound}
+use Rattle.spots.proofs.Leading.{next_spot, inner_spot, top_spot, next_all, open_head, inner_all, Tells, whole_all, entry_next, entry_first, owned}
 
 abbrev node_key : Spot → ℕ
 node_key s = (handle_in s.self).number

@@ -1,4 +1,6 @@
 // Runs the check of tables at the edges of every limit and at every cause, and the calls of a tree at numbers that are no handles.
+#![tactic(auto)]
+
 mod build;
 mod handles;
 mod limits;

@@ -1,3 +1,5 @@
+#![tactic(auto)]
+
 mod linking;
 pub mod links;
 mod typed;

@@ -1,5 +1,5 @@
 -- Which numbers a document may hold. Assumes nothing.
-use Rattle.std.specs.Prelude.{ℕ, suc, ◌^◌, ◌<◌, Bool, List, length, ℤ, pos, negsuc, ◌+ℤ◌, ◌*ℤ◌, slice_index}
+use Rattle.std.specs.Prelude.{ℕ, ◌^◌, ◌<◌, List, length, ℤ, pos, negsuc, ◌+ℤ◌, ◌*ℤ◌, slice_index}
 use Rattle.std.specs.List.{AllByRecursion as All}
 use Rattle.tree.specs.declared.span.Span.{Span}
 use Rattle.tree.specs.declared.value.Integer.{Integer}

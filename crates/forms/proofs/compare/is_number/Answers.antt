@@ -1,5 +1,5 @@
-use Rattle.std.proofs.Common.{◌≡◌, ℕ, ◌+◌, ◌-◌, ◌<◌, ◌≤◌, true, false, length, get_or, decimal, sym, refl, ap, ◌∙◌, subst, arith, rules}
-use Rattle.std.proofs.lemmas.Bool.{eqb-true, eq-eqb, ne_eqb, both_ways}
+use Rattle.std.proofs.Common.{◌+◌, get_or, arith}
+use Rattle.std.proofs.lemmas.Bool.{eqb-true, eq-eqb}
 use Rattle.forms.proofs.Numbers.{tied_first, last_digit, too_short, tied_more, length_two, last_there, last_back, never, long_enough, begins}
 use Rattle.forms.proofs.compare.is_number.Goals as goal
 use Rattle.forms.proofs.compare.is_number.Goals.{then-name-lt2-via-then-name-lt2, then-name-lt2-via-else-name-lt2+then-name-ne35, then-k-lt3-via-then-k-lt3, then-k-lt3-via-else-k-lt3+then-name-k}

@@ -4,4 +4,4 @@ use Rattle.forms.proofs.compare.typed.Goals as goal
 use Rattle.std.proofs.lemmas.Bool.Decides.{Decides-eqb}
 
 pub returns : goal.returns
-returns c = strip_suffix_is Decides-eqb c.args.name.now (codes "#type") c.strip-suffix.result c.strip-suffix.ensures.cases
+returns c = strip_suffix_is Decides-eqb c.args.name.now (codes "#type") c.strip_suffix.result c.strip_suffix.ensures.cases

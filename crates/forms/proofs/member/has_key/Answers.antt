@@ -1,4 +1,4 @@
-use Rattle.std.proofs.Common.{◌≡◌, sym, refl, arith}
+use Rattle.std.proofs.Common.{sym, refl, arith}
 use Rattle.forms.specs.Forms.{form_of}
 use Rattle.forms.specs.Keys.{spelled}
 use Rattle.forms.specs.Lent.{key_of}
@@ -13,8 +13,8 @@ returns-then-spells g c =
     has_found (form_of (g.F.Forms.meaning c.args.forms.now) c.args.form) (spelled (key_of c.args.key c.args.part.now)) c.in-Some.name.now c.loop-name.position
     c.loop-name.invariant.0 (sym c.in-Some.ensures) c.if-spells.ensures
 
-pub overflow-add-position : goal.overflow-add-position
-overflow-add-position g c = omega (arith, c.loop-name.invariant.1)
+pub overflow_add-position : goal.overflow_add-position
+overflow_add-position g c = omega (arith, c.loop-name.invariant.1)
 
 pub loop-name-smaller : goal.loop-name-smaller
 loop-name-smaller g c =
@@ -32,4 +32,4 @@ loop-name-preserved g c =
 pub returns : goal.returns
 returns g c =
     has_none (form_of (g.F.Forms.meaning c.args.forms.now) c.args.form) (spelled (key_of c.args.key c.args.part.now)) c.loop-name.position
-    c.loop-name.invariant.0 (sym c.in-default.ensures)
+    c.loop-name.invariant.0 (sym c.in_default.ensures)

@@ -1,4 +1,4 @@
-use Rattle.std.proofs.Common.{◌≡◌, ◌-◌, ◌≤◌, length, drop}
+use Rattle.std.proofs.Common.{◌≡◌, ◌-◌, ◌≤◌, drop}
 use Rattle.forms.specs.Forms.{form_of, has}
 use Rattle.forms.specs.Keys.{spelled}
 use Rattle.forms.specs.Lent.{key_of}

@@ -1,4 +1,4 @@
-use Rattle.std.proofs.Common.{◌≡◌, ◌+◌, ◌-◌, ◌/◌, ◌<◌, sym, ◌∙◌, subst, arith}
+use Rattle.std.proofs.Common.{◌+◌, ◌-◌, ◌/◌, ◌<◌, subst, arith}
 use Rattle.index.specs.Keys.{keys}
 use Rattle.index.proofs.Searching.{keys_length, key_at, hit, missed, left, right}
 use Rattle.index.proofs.sorted.find.Goals as goal

@@ -1,4 +1,4 @@
-use Rattle.std.proofs.Common.{◌≡◌, ◌≤◌, length, sym, refl, ap, ◌∙◌, arith}
+use Rattle.std.proofs.Common.{length, sym, refl, ap, ◌∙◌, arith}
 use Rattle.std.proofs.lemmas.List.{length-map}
 use Rattle.forms.specs.Forms.{nth, form_of}
 use Rattle.forms.specs.Fixed.{fixed_forms, fixed_lawful}
@@ -10,8 +10,8 @@ use Rattle.forms.proofs.fixed.FixedForms.position.Goals as goal
 pub loop-i-init : goal.loop-i-init
 loop-i-init c = refl
 
-pub overflow-cast-result : goal.overflow-cast-result
-overflow-cast-result c =
+pub overflow_cast-result : goal.overflow_cast-result
+overflow_cast-result c =
     let few = form_few fixed_forms c.args.form fixed_lawful in
     let e = ap length c.names-names.ensures in
     let m = length-map c.names-names.result.now (λ x. x.now) in

@@ -1,4 +1,4 @@
-use Rattle.std.proofs.Common.{◌≡◌, sym, ap, ◌∙◌}
+use Rattle.std.proofs.Common.{sym, ap, ◌∙◌}
 use Rattle.forms.specs.Forms.{nth}
 use Rattle.forms.proofs.Members.{nth_map, nth_map_past}
 use Rattle.forms.proofs.fixed.FixedFormsForms.name.Goals as goal
