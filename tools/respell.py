@@ -8,6 +8,7 @@ crates/ declares is respelled in every .antt and .rt file: a dash becomes an und
 name that begins with a capital letter is joined in camel case; a prime becomes
 an apostrophe. Names that the check makes (goals, invariants, measures and the
 steps of a proof) keep their spelling, and so do strings and comments of code.
+An import under the library's name All gets its whole name.
 It prints each name that falls together with another, and then changes nothing.
 """
 import pathlib
@@ -117,6 +118,13 @@ def main():
             path.write_text(new, encoding='utf8')
             changed += 1
     print(f'{len(names)} names, {changed} files')
+    # the library's All is another definition than this one, so it has its whole name
+    for path in sorted(CRATES.glob('**/*.antt')) + sorted(CRATES.glob('*/src/**/*.rt')):
+        old = path.read_text(encoding='utf8')
+        if 'out' not in path.parts and 'AllByRecursion as All' in old:
+            new = old.replace('AllByRecursion as All', 'AllByRecursion')
+            new = re.sub(r'(?<![^\s(){};,.])All(?![^\s(){};,.])', 'AllByRecursion', new)
+            path.write_text(new, encoding='utf8')
 
 
 main()

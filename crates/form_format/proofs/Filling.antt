@@ -1,6 +1,6 @@
 -- Elements that fill a place are what is written there one behind the other. Assumes nothing.
 use Rattle.std.proofs.Common.{◌≡◌, ℕ, zero, suc, ◌+◌, ◌^◌, ◌<◌, ◌≤◌, true, false, cond, List, [], ◌∷◌, ◌++◌, length, Ok, Err, Result, sym, refl, ap, ◌∙◌, subst, arith, length-append}
-use Rattle.std.specs.List.{AllByRecursion as All}
+use Rattle.std.specs.List.{AllByRecursion}
 use Rattle.std.proofs.lemmas.Bool.{cond-false}
 use Rattle.tree.specs.Outcome.{and_then}
 use Rattle.records.specs.Numbers.{Bytes}
@@ -22,7 +22,7 @@ module _ {X : Type 0} (one : ℕ → Place → Read (X × Place)) (w : X → Lis
   pub record Fills (n : ℕ) (bs : List ℕ) (xs : List X) : Type 0 where
     pub written : bs ≡ each w xs
     pub few : n + length xs ≤ most
-    pub fit : All Fits xs
+    pub fit : AllByRecursion Fits xs
 
   abbrev pub Sound : Type 0
   Sound = (n : ℕ) (p : Place) (x : X) (q : Place) → Bytes p.bytes → one n p ≡ Ok (x, q) → Takes n p x q
@@ -55,7 +55,7 @@ module _ {X : Type 0} (one : ℕ → Place → Read (X × Place)) (w : X → Lis
   abbrev pub Whole : Type 0
   Whole = (n at : ℕ) (x : X) (rest : List ℕ) → n < most → Fits x → length (w x) < 2 ^ 32 → (6 ≤ length (w x)) × (none (w x ++ rest) ≡ false) × (one n (place at (w x ++ rest)) ≡ Ok (x, place (at + length (w x)) rest))
 
-  pub fills_back : Whole → (g n at : ℕ) (xs : List X) → All Fits xs → n + length xs ≤ most → length (each w xs) < 2 ^ 32 → length (each w xs) ≤ g → filled one g n (place at (each w xs)) ≡ Ok xs
+  pub fills_back : Whole → (g n at : ℕ) (xs : List X) → AllByRecursion Fits xs → n + length xs ≤ most → length (each w xs) < 2 ^ 32 → length (each w xs) ≤ g → filled one g n (place at (each w xs)) ≡ Ok xs
   unfolding filled
   fills_back whole zero n at [] fit few short enough = refl
   fills_back whole (suc g) n at [] fit few short enough = refl

@@ -1,6 +1,6 @@
 -- What is read as a name or a form was written there, within the limits. Assumes nothing.
 use Rattle.std.proofs.Common.{◌≡◌, ℕ, zero, suc, ◌+◌, ◌<◌, ◌≤◌, Bool, true, false, cond, ◌&&◌, ◌||◌, eqb, ltb, leb, List, [], ◌∷◌, ◌++◌, length, Some, None, Ok, Err, Option, Result, sym, refl, ap, ◌∙◌, subst, arith}
-use Rattle.std.specs.List.{AllByRecursion as All}
+use Rattle.std.specs.List.{AllByRecursion}
 use Rattle.std.proofs.lemmas.Bool.{leb-false, ltb-false, or_parts, eq-eqb}
 use Rattle.records.specs.Numbers.{Bytes}
 use Rattle.records.specs.Records.{record_of, Mark, mark, Cut, cut}

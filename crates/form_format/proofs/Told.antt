@@ -1,6 +1,6 @@
 -- What the check and the making answer, from what a sink was told. Assumes nothing.
 use Rattle.std.proofs.Common.{◌≡◌, ℕ, ◌+◌, ◌*◌, ◌<◌, ◌≤◌, min, List, [], ◌∷◌, ◌++◌, length, Ok, Err, Result, sym, refl, ap, ◌∙◌, subst, append-nil, arith}
-use Rattle.std.specs.List.{AllByRecursion as All}
+use Rattle.std.specs.List.{AllByRecursion}
 use Rattle.tree.specs.Outcome.{over}
 use Rattle.records.specs.Numbers.{Bytes}
 use Rattle.records.specs.Places.{Read}
@@ -24,7 +24,7 @@ accepts bs r b e = go (set_in bs) refl r e
     go (Err x) is (Err y) h = λ fs l. err_ok x fs (sym is ∙ complete bs fs l)
 
 -- there are few names
-few_names : (fs : List Form) → All FormFits fs → names_count fs ≤ 256 * length fs
+few_names : (fs : List Form) → AllByRecursion FormFits fs → names_count fs ≤ 256 * length fs
 few_names [] h = omega arith
 few_names (f ∷ fs) h = let few = h.0.few in let k = few_names fs h.1 in omega arith
 

@@ -1,6 +1,6 @@
 -- The reading of a listed set and its writing are one another's inverse. Assumes nothing.
 use Rattle.std.proofs.Common.{◌≡◌, ℕ, zero, suc, ◌+◌, ◌^◌, ◌<◌, ◌≤◌, Bool, true, false, cond, ◌&&◌, ◌||◌, eqb, ltb, leb, List, [], ◌∷◌, ◌++◌, length, Some, None, Ok, Err, Option, Result, sym, refl, ap, ◌∙◌, subst, arith, length-append}
-use Rattle.std.specs.List.{AllByRecursion as All}
+use Rattle.std.specs.List.{AllByRecursion}
 use Rattle.std.proofs.lemmas.Bool.{lt-leb, le-ltb, ltb-false, or_from, and_right, cond-false}
 use Rattle.records.specs.Numbers.{Bytes}
 use Rattle.records.specs.Records.{record_of, Mark, mark}
@@ -80,7 +80,7 @@ made bs b = record {
     go never (Ok fs) e = absurd (never fs (accepted bs fs b e))
     go never (Err d) e = refl
 
-listed_fits : (fs : List Form) → All FormFits fs → All forms.FormFits fs
+listed_fits : (fs : List Form) → AllByRecursion FormFits fs → AllByRecursion forms.FormFits fs
 listed_fits [] h = tt
 listed_fits (f ∷ fs) h = let few = h.0.few in (record { few = omega arith; names = h.0.names }, listed_fits fs h.1)
 

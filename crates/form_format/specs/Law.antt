@@ -1,6 +1,6 @@
 -- Reading and writing a list of forms are one another's inverse. Assumes nothing.
 use Rattle.std.specs.Prelude.{◌≡◌, ℕ, ◌+◌, ◌≤◌, List, [], ◌∷◌, length, Ok, Err, Result}
-use Rattle.std.specs.List.{AllByRecursion as All}
+use Rattle.std.specs.List.{AllByRecursion}
 use Rattle.records.specs.Numbers.{Bytes}
 use Rattle.records.specs.declared.fault.RecordFault.{RecordFault}
 use Rattle.forms.specs.Forms.{Form, NameFits}
@@ -11,13 +11,13 @@ use Rattle.form_format.specs.declared.counts.FormCounts.{FormCounts}
 -- a form of a listed set
 pub record FormFits (f : Form) : Type 0 where
   pub few : length f ≤ 256
-  pub names : All NameFits f
+  pub names : AllByRecursion NameFits f
 
 -- bs is the writing of fs, within the limits of a listed set
 pub record Exact (bs : List ℕ) (fs : List Form) : Type 0 where
   pub written : bs ≡ forms_of fs
   pub few : length fs ≤ 64
-  pub forms : All FormFits fs
+  pub forms : AllByRecursion FormFits fs
   pub short : length bs ≤ 1048576
 
 -- what is read from bytes is the list of forms that they are the writing of, and there is no other

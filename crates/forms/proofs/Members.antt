@@ -1,6 +1,6 @@
 -- Names by position, and the form from a position on. Assumes nothing.
 use Rattle.std.proofs.Common.{◌≡◌, ℕ, zero, suc, ◌+◌, ◌<◌, ◌≤◌, true, false, cond, ◌||◌, List, [], ◌∷◌, map, length, get_or, drop, Some, None, sym, refl, ap, ◌∙◌, add-one, arith}
-use Rattle.std.specs.List.{AllByRecursion as All}
+use Rattle.std.specs.List.{AllByRecursion}
 use Rattle.std.specs.Str.{bytes_eq}
 use Rattle.forms.specs.Forms.{Form, nth, has, position_from, form_of, FormFits, Lawful}
 
@@ -32,7 +32,7 @@ module _ {X Y : Type 0} (f : X → Y) where
   nth_map_past (x ∷ xs) zero h = absurd (omega arith)
   nth_map_past (x ∷ xs) (suc i) h = nth_map_past xs i (omega arith)
 
-all_fit : (fs : List Form) (i : ℕ) → All FormFits fs → length (form_of fs i) ≤ 65535
+all_fit : (fs : List Form) (i : ℕ) → AllByRecursion FormFits fs → length (form_of fs i) ≤ 65535
 all_fit [] i h = omega arith
 all_fit (f ∷ fs) zero h = h.0.few
 all_fit (f ∷ fs) (suc i) h = all_fit fs i h.1

@@ -1,7 +1,7 @@
 -- The fixed set of forms. Assumes nothing.
 use Rattle.std.specs.Prelude.{◌≡◌, ℕ, ◌<◌, Bool, true, ◌&&◌, List, [], ◌∷◌, length, codes, nat_le, nat_lt, refl}
 use Rattle.std.proofs.Common.{lit≤}
-use Rattle.std.specs.List.{AllByRecursion as All}
+use Rattle.std.specs.List.{AllByRecursion}
 use Rattle.std.proofs.lemmas.Bool.{ltb-true, leb-true, and_parts}
 use Rattle.forms.specs.Forms.{Form, NameFits, Lawful}
 
@@ -16,7 +16,7 @@ abbrev bytes_below : List ℕ → Bool
 bytes_below [] = true
 bytes_below (b ∷ bs) = nat_lt b 256 && bytes_below bs
 
-below : (bs : List ℕ) → bytes_below bs ≡ true → All (λ b. b < 256) bs
+below : (bs : List ℕ) → bytes_below bs ≡ true → AllByRecursion (λ b. b < 256) bs
 below [] e = tt
 below (b ∷ bs) e = let p = and_parts (nat_lt b 256) (bytes_below bs) e in (ltb-true b 256 p.0, below bs p.1)
 

@@ -1,6 +1,6 @@
 -- What a form is, and a list of forms. Assumes nothing.
 use Rattle.std.specs.Prelude.{ℕ, suc, ◌≤◌, Bool, false, cond, ◌||◌, List, [], ◌∷◌, length, Some, None, Option}
-use Rattle.std.specs.List.{AllByRecursion as All}
+use Rattle.std.specs.List.{AllByRecursion}
 -- nth xs i is what stands at the position i of xs, counted from 0
 pub use Rattle.std.specs.List.{slice_get as nth}
 use Rattle.std.specs.Str.{bytes_eq}
@@ -41,9 +41,9 @@ pub record NameFits (m : List ℕ) : Type 0 where
 
 pub record FormFits (f : Form) : Type 0 where
   pub few : length f ≤ 65535
-  pub names : All NameFits f
+  pub names : AllByRecursion NameFits f
 
 -- the limits of every list of forms that a set means
 pub record Lawful (fs : List Form) : Type 0 where
   pub few : length fs ≤ 65535
-  pub forms : All FormFits fs
+  pub forms : AllByRecursion FormFits fs

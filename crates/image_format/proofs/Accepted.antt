@@ -1,6 +1,6 @@
 -- Bytes that are accepted are the writing of the document that is answered. Assumes nothing.
 use Rattle.std.proofs.Common.{◌≡◌, ℕ, zero, suc, ◌+◌, ◌-◌, ◌*◌, ◌<◌, ◌≤◌, Bool, true, false, cond, ◌||◌, eqb, ltb, leb, ◌⊎◌, List, [], ◌∷◌, ◌++◌, length, take, drop, Some, None, Ok, Err, Option, Result, sym, refl, ap, ◌∙◌, subst, inl, inr, ⊎_elim, append_assoc, append-nil, arith, length-append, length-drop, take-append-drop, length-take-le, drop-drop}
-use Rattle.std.specs.List.{AllByRecursion as All}
+use Rattle.std.specs.List.{AllByRecursion}
 use Rattle.std.proofs.ByRecursion.{All-take, All-drop}
 use Rattle.std.proofs.lemmas.Bool.{ltb-false, leb-true, eqb-true, ne_eqb, cases_eq, cases_Bool, false≢true}
 use Rattle.tree.specs.declared.span.Span.{Span}
@@ -180,7 +180,7 @@ entry_is p x q b k e =
 
 pub record EntriesAre (p : Place) (es : List Entry) (q : Place) : Type 0 where
   pub goes : Goes p (entries_of es) q
-  pub fit : All EntryFits es
+  pub fit : AllByRecursion EntryFits es
   pub stand : EntriesStand p.at es
 
 pub entries_are : (f : ℕ) (p : Place) (es : List Entry) (q : Place) → Bytes p.bytes → entries f p ≡ Ok (es, q) → EntriesAre p es q

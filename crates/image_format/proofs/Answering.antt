@@ -1,7 +1,7 @@
 -- What the bytes at a handle say of the document that is made of an image. Assumes nothing.
 use Rattle.std.proofs.Common.{◌≡◌, ℕ, zero, suc, ◌+◌, ◌-◌, ◌*◌, ◌^◌, ◌<◌, ◌≤◌, Bool, true, false, ltb, List, [], ◌∷◌, ◌++◌, length, get_or, take, drop, Some, None, Ok, Err, Option, sym, refl, ap, ◌∙◌, subst, arith, w64, to_z}
 use Rattle.std.proofs.lemmas.List.{take_all, length-drop}
-use Rattle.std.specs.List.{AllByRecursion as All}
+use Rattle.std.specs.List.{AllByRecursion}
 use Rattle.std.proofs.ByRecursion.{All-append}
 use Rattle.tree.specs.declared.handle.NodeHandle.{NodeHandle}
 use Rattle.tree.specs.declared.handle.EntryHandle.{EntryHandle}
@@ -51,11 +51,11 @@ node_told bs b n s e = go (image bs) refl e
           record { spot = s; is = e; says = subst (λ w. NodeSays w (head_in s.self)) (sym (begins bs n.number (node_of s.self) place)) (node_says s.self place.behind p.0.fits (omega arith)) },
         )
 
-entries_stand : (bs : List ℕ) (ss : List Spot) → All (Stands bs) ss → All (λ (s : EntrySpot). EntryStands bs s.self) (entries_of ss)
+entries_stand : (bs : List ℕ) (ss : List Spot) → AllByRecursion (Stands bs) ss → AllByRecursion (λ (s : EntrySpot). EntryStands bs s.self) (entries_of ss)
 entries_stand bs [] h = tt
 entries_stand bs (s ∷ ss) h = All-append (λ (s : EntrySpot). EntryStands bs s.self) (entries_from (handle_in s.self) (head_in s.self).entries) (entries_of ss) (from (handle_in s.self) (head_in s.self).entries h.0.entries) (entries_stand bs ss h.1)
   where
-    from : (n : NodeHandle) (es : List Entry) → All (EntryStands bs) es → All (λ (s : EntrySpot). EntryStands bs s.self) (entries_from n es)
+    from : (n : NodeHandle) (es : List Entry) → AllByRecursion (EntryStands bs) es → AllByRecursion (λ (s : EntrySpot). EntryStands bs s.self) (entries_from n es)
     from n [] k = tt
     from n (e ∷ es) k = (k.0, from n es k.1)
 

@@ -1,6 +1,6 @@
 -- Every writing within the limits is accepted. Assumes nothing.
 use Rattle.std.proofs.Common.{◌≡◌, ℕ, zero, suc, ◌+◌, ◌-◌, ◌*◌, ◌^◌, ◌<◌, ◌≤◌, Bool, true, false, cond, ◌||◌, eqb, ltb, leb, List, [], ◌∷◌, ◌++◌, length, take, drop, Some, None, Ok, Err, Option, Result, sym, refl, ap, ◌∙◌, subst, append_assoc, append-nil, add-zero, arith, length-append}
-use Rattle.std.specs.List.{AllByRecursion as All}
+use Rattle.std.specs.List.{AllByRecursion}
 use Rattle.std.proofs.lemmas.Bool.{eq-eqb, le-ltb, le-leb, cond-true, cond-false}
 use Rattle.tree.specs.declared.span.Span.{Span}
 use Rattle.tree.specs.declared.handle.NodeHandle.{NodeHandle}
@@ -121,7 +121,7 @@ entry_long : (e : Entry) → 6 ≤ length (entry_of e)
 unfolding entry_of entry_body
 entry_long e = let l = record_long (entry_kind e.name) (entry_body e) in omega arith
 
-entries_read : (f at : ℕ) (es : List Entry) (rest : List ℕ) → All EntryFits es → EntriesStand at es → length (entries_of es) < 2 ^ 32 → length (entries_of es) ≤ f → is_entry (next_kind rest) ≡ false
+entries_read : (f at : ℕ) (es : List Entry) (rest : List ℕ) → AllByRecursion EntryFits es → EntriesStand at es → length (entries_of es) < 2 ^ 32 → length (entries_of es) ≤ f → is_entry (next_kind rest) ≡ false
     → entries f (place at (entries_of es ++ rest)) ≡ Ok (es, place (at + length (entries_of es)) rest)
 unfolding entries
 entries_read zero at [] rest fits stand short enough other = ap (λ n. Ok ([], place n rest)) (sym (add-zero at))

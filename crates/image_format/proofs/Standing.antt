@@ -1,6 +1,6 @@
 -- What a writing says of the handles, and that it is within the limits. Assumes nothing.
 use Rattle.std.proofs.Common.{◌≡◌, ℕ, zero, suc, ◌+◌, ◌-◌, ◌^◌, ◌<◌, ◌≤◌, max, ◌⊎◌, List, [], ◌∷◌, ◌++◌, map, length, get_or, drop, Some, None, Option, sym, refl, ap, ◌∙◌, subst, inl, inr, ⊎_elim, append_assoc, append-nil, arith, length-append}
-use Rattle.std.specs.List.{AllByRecursion as All}
+use Rattle.std.specs.List.{AllByRecursion}
 use Rattle.std.proofs.ByRecursion.{All-append}
 use Rattle.tree.specs.declared.handle.NodeHandle.{NodeHandle}
 use Rattle.tree.specs.declared.handle.EntryHandle.{EntryHandle}
@@ -37,7 +37,7 @@ climbs_rising a b (x ∷ xs) c i zero lt le = absurd (omega arith)
 climbs_rising a b (x ∷ xs) c zero (suc j) lt le = above xs (suc x) b j c.1 (omega arith)
 climbs_rising a b (x ∷ xs) c (suc i) (suc j) lt le = climbs_rising (suc x) b xs c.1 i j (omega arith) (omega arith)
 
-pub climbs_below : (a b : ℕ) (xs : List ℕ) → Climbs a b xs → All (λ n. n < b) xs
+pub climbs_below : (a b : ℕ) (xs : List ℕ) → Climbs a b xs → AllByRecursion (λ n. n < b) xs
 climbs_below a b [] c = tt
 climbs_below a b (x ∷ xs) c = let h = ends (suc x) b xs c.1 in (omega arith, climbs_below (suc x) b xs c.1)
   where

@@ -1,6 +1,6 @@
 -- Where each node and entry of a document stands in its image, and that the document keeps the limits. Assumes nothing.
 use Rattle.std.proofs.Common.{◌≡◌, ℕ, suc, ◌+◌, ◌^◌, ◌<◌, ◌≤◌, max, List, [], ◌∷◌, ◌++◌, length, Some, None, Option, sym, refl, ap, ◌∙◌, subst, append-nil, arith}
-use Rattle.std.specs.List.{AllByRecursion as All}
+use Rattle.std.specs.List.{AllByRecursion}
 use Rattle.std.proofs.ByRecursion.{All-append, All-weaker}
 use Rattle.tree.specs.declared.handle.NodeHandle.{NodeHandle}
 use Rattle.tree.specs.declared.handle.EntryHandle.{EntryHandle}
@@ -38,9 +38,9 @@ module _ (bs : List ℕ) where
     pub place : At bs (handle_in s.self).number (node_of s.self)
     pub fits : HeadFits (head_in s.self)
     pub nesting : s.nesting ≤ 32
-    pub entries : All EntryStands (head_in s.self).entries
+    pub entries : AllByRecursion EntryStands (head_in s.self).entries
 
-  entries_stand : (at : ℕ) (es : List Entry) → At bs at (entries_of es) → EntriesStand at es → All EntryFits es → All EntryStands es
+  entries_stand : (at : ℕ) (es : List Entry) → At bs at (entries_of es) → EntriesStand at es → AllByRecursion EntryFits es → AllByRecursion EntryStands es
   entries_stand at [] a s f = tt
   entries_stand at (e ∷ es) a s f = (
     record { place = subst (λ (h : EntryHandle). At bs h.number (entry_of e)) (sym s.0) (left bs at (entry_of e) (entries_of es) a); fits = f.0 },
@@ -50,7 +50,7 @@ module _ (bs : List ℕ) where
   mutual
     unfolding spots
 
-    stand : (d : ℕ) (p : Option NodeHandle) (before : List Node) (ns : Nodes) (at : ℕ) → At bs at (nodes_of ns) → Stand at ns → Fit ns → d + depth ns ≤ 33 → All Stands (spots d p before ns)
+    stand : (d : ℕ) (p : Option NodeHandle) (before : List Node) (ns : Nodes) (at : ℕ) → At bs at (nodes_of ns) → Stand at ns → Fit ns → d + depth ns ≤ 33 → AllByRecursion Stands (spots d p before ns)
     stand d p before nil at a s f l = tt
     stand d p before (cons n ns) at a s f l =
         let this = stand_node d p before n (listed ns) at (left bs at (node_of n) (nodes_of ns) a) s.0 f.0 (omega arith) in (
@@ -60,7 +60,7 @@ module _ (bs : List ℕ) where
         )
 
     stand_node : (d : ℕ) (p : Option NodeHandle) (before : List Node) (n : Node) (after : List Node) (at : ℕ) → At bs at (node_of n) → NodeStands at n → NodeFits n → d + depth_node n ≤ 33
-        → Stands (record { before = before; self = n; after = after; parent = p; nesting = d }) × All Stands (spots_in d n)
+        → Stands (record { before = before; self = n; after = after; parent = p; nesting = d }) × AllByRecursion Stands (spots_in d n)
     stand_node d p before (node h head b) after at a s f l =
         let inner = body_at bs at 2 (front_of head ++ (entries_of head.entries ++ block_of b)) a in
         let rest = right bs (at + 6) (front_of head) (entries_of head.entries ++ block_of b) inner in
@@ -76,11 +76,11 @@ module _ (bs : List ℕ) where
           stand_block (suc d) (Some h) b (from + length (entries_of head.entries)) bl s.2 f.1 (omega arith),
         )
 
-    stand_block : (d : ℕ) (p : Option NodeHandle) (b : Block) (at : ℕ) → At bs at (block_of b) → BlockStands at b → BlockFits b → d + depth_block b ≤ 33 → All Stands (spots_of d p b)
+    stand_block : (d : ℕ) (p : Option NodeHandle) (b : Block) (at : ℕ) → At bs at (block_of b) → BlockStands at b → BlockFits b → d + depth_block b ≤ 33 → AllByRecursion Stands (spots_of d p b)
     stand_block d p no_block at a s f l = tt
     stand_block d p (block ns) at a s f l = stand d p [] ns (at + 6) (body_at bs at 1 (nodes_of ns) a) s f l
 
-pub all_stand : (bs : List ℕ) (doc : Nodes) → Exact bs doc → All (Stands bs) (all_spots doc)
+pub all_stand : (bs : List ℕ) (doc : Nodes) → Exact bs doc → AllByRecursion (Stands bs) (all_spots doc)
 all_stand bs doc x =
     let whole : At bs 0 (record_of 1 (nodes_of doc)) = record { before = []; behind = []; whole = x.written ∙ sym (append-nil (record_of 1 (nodes_of doc))); long = refl } in
     let s = x.shallow in
@@ -146,11 +146,11 @@ module _ (bs : List ℕ) (b : Bytes bs) (short : length bs ≤ 1048576) where
             span = f.span;
           }
 
-  entries_fit : (ss : List Spot) → All (Stands bs) ss → All (λ (s : EntrySpot). limits.EntryFits s.self) (all-entries-of ss)
+  entries_fit : (ss : List Spot) → AllByRecursion (Stands bs) ss → AllByRecursion (λ (s : EntrySpot). limits.EntryFits s.self) (all-entries-of ss)
   entries_fit [] h = tt
   entries_fit (s ∷ ss) h = All-append (λ (s : EntrySpot). limits.EntryFits s.self) (entries_from (handle_in s.self) (head_in s.self).entries) (all-entries-of ss) (from (handle_in s.self) (head_in s.self).entries h.0.entries) (entries_fit ss h.1)
     where
-      from : (n : NodeHandle) (es : List Entry) → All (EntryStands bs) es → All (λ (s : EntrySpot). limits.EntryFits s.self) (entries_from n es)
+      from : (n : NodeHandle) (es : List Entry) → AllByRecursion (EntryStands bs) es → AllByRecursion (λ (s : EntrySpot). limits.EntryFits s.self) (entries_from n es)
       from n [] k = tt
       from n (e ∷ es) k = (entry_fits e k.0, from n es k.1)
 

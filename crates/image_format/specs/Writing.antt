@@ -1,6 +1,6 @@
 -- The bytes that a document is written as, and its handles. Assumes nothing.
 use Rattle.std.specs.Prelude.{◌≡◌, ℕ, zero, suc, ◌+◌, ◌^◌, ◌<◌, ◌≤◌, Bool, true, false, cond, List, [], ◌∷◌, ◌++◌, length, Some, None, Option}
-use Rattle.std.specs.List.{AllByRecursion as All}
+use Rattle.std.specs.List.{AllByRecursion}
 use Rattle.tree.specs.declared.span.Span.{Span}
 use Rattle.tree.specs.Document.{Ident, Value, null, string, integer, float, bool, Entry, Head, Node, node, Block, block, no_block, Nodes, nil, cons}
 use Rattle.tree.specs.Numbers.{SpanFits, IntegerFits}
@@ -100,7 +100,7 @@ pub record HeadFits (h : Head) : Type 0 where
   pub name : SpanFits h.name.span
   pub type : PerhapsFits h.type
   pub span : SpanFits h.span
-  pub entries : All EntryFits h.entries
+  pub entries : AllByRecursion EntryFits h.entries
 
 abbrev mutual
   pub Fit : Nodes → Type 0

@@ -1,6 +1,6 @@
 -- What is found of a document. Assumes nothing.
 use Rattle.std.proofs.Common.{◌≡◌, ℕ, Bool, true, false, cond, eqb, List, [], ◌∷◌, Some, None, Option, sym, refl, subst, arith}
-use Rattle.std.specs.List.{AllByRecursion as All}
+use Rattle.std.specs.List.{AllByRecursion}
 use Rattle.std.specs.Option.{option_map}
 use Rattle.std.proofs.lemmas.Bool.{eqb-true}
 use Rattle.tree.specs.Document.{handle_in}
@@ -10,7 +10,7 @@ pub none_some : {X Y : Type 0} (x : X) → ◌≡◌ {A = Option X} None (Some x
 none_some x e = absurd (let z : ◌≡◌ {A = ℕ} 0 1 = cc in omega arith)
 
 -- what is found is among what is searched, and has the number
-pub spot_found : (P : Spot → Type 0) (ss : List Spot) (n : ℕ) (s : Spot) → All P ss → find_spot ss n ≡ Some s → P s × ((handle_in s.self).number ≡ n)
+pub spot_found : (P : Spot → Type 0) (ss : List Spot) (n : ℕ) (s : Spot) → AllByRecursion P ss → find_spot ss n ≡ Some s → P s × ((handle_in s.self).number ≡ n)
 spot_found P [] n s a e = absurd (let z : ◌≡◌ {A = ℕ} 0 1 = cc in omega arith)
 spot_found P (x ∷ ss) n s a e = go (eqb (handle_in x.self).number n) refl (spot_found P ss n s a.1) e
   where
@@ -18,7 +18,7 @@ spot_found P (x ∷ ss) n s a e = go (eqb (handle_in x.self).number n) refl (spo
     go true q ih is = let same : x ≡ s = cc in subst (λ y. P y × ((handle_in y.self).number ≡ n)) same (a.0, eqb-true _ _ q)
     go false q ih is = ih is
 
-pub entry_found : (P : EntrySpot → Type 0) (ss : List EntrySpot) (n : ℕ) (s : EntrySpot) → All P ss → find_entry ss n ≡ Some s → P s × (s.self.handle.number ≡ n)
+pub entry_found : (P : EntrySpot → Type 0) (ss : List EntrySpot) (n : ℕ) (s : EntrySpot) → AllByRecursion P ss → find_entry ss n ≡ Some s → P s × (s.self.handle.number ≡ n)
 entry_found P [] n s a e = absurd (let z : ◌≡◌ {A = ℕ} 0 1 = cc in omega arith)
 entry_found P (x ∷ ss) n s a e = go (eqb x.self.handle.number n) refl (entry_found P ss n s a.1) e
   where

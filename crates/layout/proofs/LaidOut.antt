@@ -1,6 +1,6 @@
 -- The tables that a document is laid out as lay it out. Assumes nothing.
 use Rattle.std.proofs.Common.{◌≡◌, ℕ, zero, suc, ◌+◌, ◌≤◌, Bool, true, false, List, [], ◌∷◌, ◌++◌, length, take, drop, Some, None, Option, sym, refl, ap, ◌∙◌, subst, append_assoc, append-nil, arith, length-append}
-use Rattle.std.specs.List.{AllByRecursion as All}
+use Rattle.std.specs.List.{AllByRecursion}
 use Rattle.std.proofs.lemmas.Bool.{le-leb}
 use Rattle.tree.specs.declared.handle.NodeHandle.{NodeHandle}
 use Rattle.tree.specs.Document.{Ident, Value, null, string, integer, float, bool, Entry, Head, Nodes, handle_in, head_in, block_in, is_block}
@@ -71,11 +71,11 @@ module _ (t : List ℕ) where
       let more = entries_are (at + length (entry_text e)) (suc k) es (right t at (entry_text e) (entries_text es) a) n.1 in
       λ i. one i ∷ more i
 
-  all_entry_parts : (at : ℕ) (es : List Entry) → At t at (entries_text es) → All (EntryParts t) (entry_rows at es)
+  all_entry_parts : (at : ℕ) (es : List Entry) → At t at (entries_text es) → AllByRecursion (EntryParts t) (entry_rows at es)
   all_entry_parts at [] a = tt
   all_entry_parts at (e ∷ es) a = (entry_parts at e (left t at (entry_text e) (entries_text es) a), all_entry_parts (at + length (entry_text e)) es (right t at (entry_text e) (entries_text es) a))
 
-  all_node_parts : (at k : ℕ) (ss : List Spot) → At t at (nodes_text ss) → All (NodeParts t) (node_rows at k ss)
+  all_node_parts : (at k : ℕ) (ss : List Spot) → At t at (nodes_text ss) → AllByRecursion (NodeParts t) (node_rows at k ss)
   all_node_parts at k [] a = tt
   all_node_parts at k (s ∷ ss) a =
       let h = head_in s.self in

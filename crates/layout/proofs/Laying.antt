@@ -1,6 +1,6 @@
 -- What is read from tables is laid out in them. Assumes nothing.
 use Rattle.std.proofs.Common.{◌≡◌, ℕ, zero, suc, ◌+◌, ◌-◌, ◌<◌, ◌≤◌, Bool, true, false, cond, ◌⊎◌, List, [], ◌∷◌, ◌++◌, length, get_or, take, drop, Some, None, Ok, Err, Option, sym, refl, ap, ◌∙◌, subst, inl, inr, ⊎_elim, append_assoc, append-nil, add-zero, add_assoc, zero-add, add-one, arith, length-append, length-drop}
-use Rattle.std.specs.List.{AllByRecursion as All}
+use Rattle.std.specs.List.{AllByRecursion}
 use Rattle.std.proofs.lemmas.List.{drop_more, drop_all, length-take-le}
 use Rattle.std.proofs.ByRecursion.{All-append, All-from_get_or}
 use Rattle.std.proofs.lemmas.Bool.{cases_lt}
@@ -100,7 +100,7 @@ pub record Lays (t : Tables) (i to : ℕ) (ss : List Spot) : Type 0 where
   pub says : drop i (said t) ≡ nodes_say (line t i) ss ++ drop to (said t)
   pub lines : line t to ≡ line t i + total ss
   pub count : i + length ss ≡ to
-  pub nesting : All (λ s. s.nesting ≤ 32) ss
+  pub nesting : AllByRecursion (λ s. s.nesting ≤ 32) ss
   pub parts : (k : ℕ) → i ≤ k → k < to → NodeParts t.text (row t k)
   pub there : line t i ≤ length t.entries → line t to ≤ length t.entries
   pub rooms : (k : ℕ) → i ≤ k → k < to → (row t k).entries_start + (row t k).entries_count ≤ length t.entries

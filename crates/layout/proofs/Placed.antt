@@ -1,6 +1,6 @@
 -- Where the nodes and entries of a laid out document stand in its tables. Assumes nothing.
 use Rattle.std.proofs.Common.{◌≡◌, ℕ, zero, suc, ◌+◌, ◌-◌, ◌<◌, ◌≤◌, Bool, true, false, cond, eqb, ◌⊎◌, List, [], ◌∷◌, ◌++◌, map, length, get_or, take, drop, Some, None, Option, sym, refl, ap, ◌∙◌, subst, inl, inr, ⊎_elim, add-zero, add_assoc, zero-add, arith, length-append, length-drop}
-use Rattle.std.specs.List.{AllByRecursion as All}
+use Rattle.std.specs.List.{AllByRecursion}
 use Rattle.std.proofs.lemmas.List.{get_or-take, get_or-drop, length-take-le}
 use Rattle.std.proofs.ByRecursion.{All-append}
 use Rattle.std.proofs.lemmas.Bool.{eqb-true, cases_Bool}
@@ -66,7 +66,7 @@ last_more t i r rs l = let g = l.long in record {
   at = λ k. let e : i + suc k ≡ suc i + k = omega arith in l.at (suc k) ∙ ap (row t) e;
 }
 
-nodes_stand : (t : Tables) (i k : ℕ) (rs : List NodeRow) (ss : List Spot) → Last t i rs → rows_say t i rs ≡ nodes_say k ss → All (NodeStands t) ss
+nodes_stand : (t : Tables) (i k : ℕ) (rs : List NodeRow) (ss : List Spot) → Last t i rs → rows_say t i rs ≡ nodes_say k ss → AllByRecursion (NodeStands t) ss
 nodes_stand t i k rs [] l e = tt
 nodes_stand t i k [] (s ∷ ss) l e = absurd (let m = ap length e in omega arith)
 nodes_stand t i k (r ∷ rs) (s ∷ ss) l e =
@@ -82,7 +82,7 @@ nodes_stand t i k (r ∷ rs) (s ∷ ss) l e =
       nodes_stand t (suc i) _ rs ss (last_more t i r rs l) tail,
     )
 
-pub node_stands : (t : Tables) (doc : Nodes) → Laid t doc → All (NodeStands t) (all_spots doc)
+pub node_stands : (t : Tables) (doc : Nodes) → Laid t doc → AllByRecursion (NodeStands t) (all_spots doc)
 node_stands t doc l = nodes_stand t 0 0 t.nodes (all_spots doc) (record { long = zero-add _; at = λ k. ap (row t) (sym (zero-add k)) }) l.nodes
 
 -- es are entry rows from k on
@@ -90,7 +90,7 @@ pub record Cut (t : Tables) (k : ℕ) (es : List EntryRow) : Type 0 where
   pub long : k + length es ≤ length t.entries
   pub at : (j : ℕ) → j < length es → get_or es j blank_entry ≡ entry_row t (k + j)
 
-entries_stand : (t : Tables) (h : NodeHandle) (k : ℕ) (es : List EntryRow) → Cut t k es → All (λ s. EntryStands t s.self) (entries_from h (say.entries_from t.text k es))
+entries_stand : (t : Tables) (h : NodeHandle) (k : ℕ) (es : List EntryRow) → Cut t k es → AllByRecursion (λ s. EntryStands t s.self) (entries_from h (say.entries_from t.text k es))
 entries_stand t h k [] c = tt
 entries_stand t h k (e ∷ es) c =
     let g = c.long in (
@@ -130,7 +130,7 @@ numbers_append (x ∷ xs) ys = ap (λ l. x.self.handle.number ∷ l) (numbers_ap
 
 -- the entries of some nodes stand in their rows, and are numbered from k on
 pub record EntriesStand (t : Tables) (k : ℕ) (ss : List Spot) : Type 0 where
-  pub stand : All (λ s. EntryStands t s.self) (entries_of ss)
+  pub stand : AllByRecursion (λ s. EntryStands t s.self) (entries_of ss)
   pub numbers : entry_numbers (entries_of ss) ≡ upto k (total ss)
 
 all_entries_stand : (t : Tables) (i k : ℕ) (rs : List NodeRow) (ss : List Spot) → k + total ss ≤ length t.entries → rows_say t i rs ≡ nodes_say k ss → EntriesStand t k ss
@@ -145,7 +145,7 @@ all_entries_stand t i k (r ∷ rs) (s ∷ ss) room e =
     let is : picked t k r.entries_count ≡ es = ap (λ n. picked t n r.entries_count) (sym start) ∙ ap (λ (x : Says). x.head.entries) first in
     let more = all_entries_stand t (suc i) (k + length es) rs ss (omega arith) tail in
     let P : EntrySpot → Type 0 = λ x. EntryStands t x.self in
-    let here = subst (λ l. All P (entries_from h l)) is (entries_stand t h k (take r.entries_count (drop k t.entries)) (cut t k r.entries_count (omega arith))) in
+    let here = subst (λ l. AllByRecursion P (entries_from h l)) is (entries_stand t h k (take r.entries_count (drop k t.entries)) (cut t k r.entries_count (omega arith))) in
     let numbered = subst (λ l. entry_numbers (entries_from h l) ≡ upto k (length l)) is (entry_numbers_from t.text h k (take r.entries_count (drop k t.entries))) in
     record {
       stand = All-append P (entries_at s) (entries_of ss) here more.stand;

@@ -1,6 +1,6 @@
 -- Reading and laying out are one another's inverse. Assumes nothing.
 use Rattle.std.proofs.Common.{◌≡◌, ℕ, zero, suc, ◌+◌, ◌-◌, ◌<◌, ◌≤◌, Bool, true, false, cond, ltb, leb, ◌⊎◌, List, [], ◌∷◌, ◌++◌, length, get_or, take, drop, Some, None, Ok, Err, Option, Result, sym, refl, ap, ◌∙◌, subst, inl, inr, ⊎_elim, append_assoc, append-nil, add-zero, add_assoc, zero-add, add-one, arith, length-append, length-drop}
-use Rattle.std.specs.List.{AllByRecursion as All}
+use Rattle.std.specs.List.{AllByRecursion}
 use Rattle.std.proofs.lemmas.List.{drop_more, drop_all, drop-drop, drop_at, length-take-le}
 use Rattle.std.proofs.ByRecursion.{All-append, All-from_get_or, All-get_or}
 use Rattle.std.proofs.lemmas.Bool.{cases_lt, leb-true, le-leb, ltb-true, lt-ltb, cond-true}
@@ -24,7 +24,7 @@ use Rattle.layout.proofs.Laying.{total, total_append, total_is, say_append, says
 
 -- what holds of sound entry rows from k on
 pub record Sound (t : Tables) (k : ℕ) (es : List EntryRow) : Type 0 where
-  pub parts : All (EntryParts t.text) es
+  pub parts : AllByRecursion (EntryParts t.text) es
   pub taken : 0 < length es → k + length es ≤ line t (length t.nodes)
 
 entry_fit : (t : Tables) (k : ℕ) (e : EntryRow) → entry_cause t k e ≡ None → EntryParts t.text e × (k < line t (length t.nodes))
@@ -86,13 +86,13 @@ pub record Holds (t : Tables) (d i to : ℕ) (ss : List Spot) : Type 0 where
   pub count : i + length ss ≡ to
   pub within : to ≤ length t.nodes
   pub room : line t i + total ss ≤ length t.entries
-  pub nesting : All (λ s. s.nesting ≤ 32) ss
+  pub nesting : AllByRecursion (λ s. s.nesting ≤ 32) ss
 
-all_left : {X : Type 0} (P : X → Type 0) (xs ys : List X) → All P (xs ++ ys) → All P xs
+all_left : {X : Type 0} (P : X → Type 0) (xs ys : List X) → AllByRecursion P (xs ++ ys) → AllByRecursion P xs
 all_left P [] ys a = tt
 all_left P (x ∷ xs) ys a = (a.0, all_left P xs ys a.1)
 
-all_right : {X : Type 0} (P : X → Type 0) (xs ys : List X) → All P (xs ++ ys) → All P ys
+all_right : {X : Type 0} (P : X → Type 0) (xs ys : List X) → AllByRecursion P (xs ++ ys) → AllByRecursion P ys
 all_right P [] ys a = a
 all_right P (x ∷ xs) ys a = all_right P xs ys a.1
 
@@ -245,7 +245,7 @@ module _ (t : Tables) (parts : (k : ℕ) → k < length t.nodes → NodeParts t.
       (λ holds. read_back f d (next t i) to p (before ++ node k hd b ∷ []) ns (omega arith) holds)
 
 -- entry rows with sound parts, each taken by a node
-entries_sound : (t : Tables) (k : ℕ) (es : List EntryRow) → All (EntryParts t.text) es → k + length es ≤ line t (length t.nodes) → entry_rows t k es ≡ Ok tt
+entries_sound : (t : Tables) (k : ℕ) (es : List EntryRow) → AllByRecursion (EntryParts t.text) es → k + length es ≤ line t (length t.nodes) → entry_rows t k es ≡ Ok tt
 entries_sound t k [] a l = refl
 entries_sound t k (e ∷ es) a l =
     let none : entry_cause t k e ≡ None =

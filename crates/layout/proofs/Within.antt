@@ -1,6 +1,6 @@
 -- A laid out document is within the limits. Assumes nothing.
 use Rattle.std.proofs.Common.{◌≡◌, ℕ, zero, suc, ◌+◌, ◌^◌, ◌<◌, ◌≤◌, Bool, true, false, ◌&&◌, ltb, leb, List, [], ◌∷◌, ◌++◌, map, length, get_or, take, drop, ℤ, pos, negsuc, Some, None, Ok, Err, Option, Result, sym, refl, ap, ◌∙◌, subst, arith, length-drop}
-use Rattle.std.specs.List.{AllByRecursion as All}
+use Rattle.std.specs.List.{AllByRecursion}
 use Rattle.std.proofs.ByRecursion.{All-get_or, All-from_get_or, All-take, All-drop}
 use Rattle.std.proofs.lemmas.Bool.{and_parts, and_from, ltb-true, lt-ltb, leb-true, false≢true}
 use Rattle.std.proofs.lemmas.List.{length-take-le, take_more, take_all}
@@ -24,11 +24,11 @@ use Rattle.layout.proofs.Laying.{spots_none}
 use Rattle.layout.proofs.Reading.{laid}
 use Rattle.layout.proofs.Placed.{upto_rising, NodeStands, node_stands, node_numbered, EntryStands, entry_stands}
 
-pub each_all : {X : Type 0} (p : X → Bool) (xs : List X) → each p xs ≡ true → All (λ x. p x ≡ true) xs
+pub each_all : {X : Type 0} (p : X → Bool) (xs : List X) → each p xs ≡ true → AllByRecursion (λ x. p x ≡ true) xs
 each_all p [] e = tt
 each_all p (x ∷ xs) e = let a = and_parts (p x) (each p xs) e in (a.0, each_all p xs a.1)
 
-pub each_from : {X : Type 0} (p : X → Bool) (xs : List X) → All (λ x. p x ≡ true) xs → each p xs ≡ true
+pub each_from : {X : Type 0} (p : X → Bool) (xs : List X) → AllByRecursion (λ x. p x ≡ true) xs → each p xs ≡ true
 each_from p [] a = refl
 each_from p (x ∷ xs) a = and_from (p x) (each p xs) a.0 (each_from p xs a.1)
 
@@ -43,11 +43,11 @@ each_more p xs i d lt a b = ap (each p) (take_more xs i d lt) ∙ each_append p 
 pub each_whole : {X : Type 0} (p : X → Bool) (xs : List X) (i : ℕ) → length xs ≤ i → each p (take i xs) ≡ true → each p xs ≡ true
 each_whole p xs i ge a = ap (each p) (sym (take_all i xs ge)) ∙ a
 
-all_through : {X : Type 0} (P Q : X → Type 0) → ((x : X) → P x → Q x) → (xs : List X) → All P xs → All Q xs
+all_through : {X : Type 0} (P Q : X → Type 0) → ((x : X) → P x → Q x) → (xs : List X) → AllByRecursion P xs → AllByRecursion Q xs
 all_through P Q f [] a = tt
 all_through P Q f (x ∷ xs) a = (f x a.0, all_through P Q f xs a.1)
 
-both : {X : Type 0} (P Q R : X → Type 0) → ((x : X) → P x → Q x → R x) → (xs : List X) → All P xs → All Q xs → All R xs
+both : {X : Type 0} (P Q R : X → Type 0) → ((x : X) → P x → Q x → R x) → (xs : List X) → AllByRecursion P xs → AllByRecursion Q xs → AllByRecursion R xs
 both P Q R f [] a b = tt
 both P Q R f (x ∷ xs) a b = (f x a.0 b.0, both P Q R f xs a.1 b.1)
 
@@ -58,7 +58,7 @@ signed_fits : (z : ℤ) → signed_typed z ≡ true → Signed z
 signed_fits (pos n) e = ltb-true n (2 ^ 63) e
 signed_fits (negsuc n) e = ltb-true n (2 ^ 63) e
 
-module _ (bs : List ℕ) (bytes : All (λ b. b < 256) bs) (short : length bs ≤ 1048576) where
+module _ (bs : List ℕ) (bytes : AllByRecursion (λ b. b < 256) bs) (short : length bs ≤ 1048576) where
   piece_fits : (p : Part) → in_text bs p ≡ true → TextFits (piece bs p)
   piece_fits p e =
       let l = leb-true (p.start + p.length) (length bs) e in

@@ -1,6 +1,6 @@
 -- The tables that a document is laid out as. Assumes nothing.
 use Rattle.std.specs.Prelude.{◌≡◌, ℕ, suc, ◌+◌, ◌≤◌, List, [], ◌∷◌, ◌++◌, length, Some, None, Option}
-use Rattle.std.specs.List.{AllByRecursion as All}
+use Rattle.std.specs.List.{AllByRecursion}
 use Rattle.tree.specs.Document.{Ident, Value, null, string, integer, float, bool, Entry, Head, Nodes, handle_in, head_in, block_in, is_block}
 use Rattle.tree.specs.Going.{Spot, spots_in, all_spots}
 use Rattle.layout.specs.Rows.{Tables, tables}
@@ -113,7 +113,7 @@ EntriesNumbered k (e ∷ es) = (e.handle ≡ record { number = k }) × EntriesNu
 pub record Fits (doc : Nodes) : Type 0 where
   pub nodes : NodesNumbered 0 (all_spots doc)
   pub entries : EntriesNumbered 0 (own_entries (all_spots doc))
-  pub nesting : All (λ s. s.nesting ≤ 32) (all_spots doc)
+  pub nesting : AllByRecursion (λ s. s.nesting ≤ 32) (all_spots doc)
   pub few_nodes : length (all_spots doc) ≤ 65535
   pub few_entries : length (own_entries (all_spots doc)) ≤ 65535
   pub short_text : length (laid_out doc).text ≤ 1048576

@@ -1,6 +1,6 @@
 -- A document laid out as tables. Assumes nothing.
 use Rattle.std.specs.Prelude.{◌≡◌, ℕ, suc, ◌+◌, ◌≤◌, Bool, true, List, [], ◌∷◌, length, Ok, Err, Result}
-use Rattle.std.specs.List.{AllByRecursion as All}
+use Rattle.std.specs.List.{AllByRecursion}
 use Rattle.tree.specs.declared.handle.NodeHandle.{NodeHandle}
 use Rattle.tree.specs.Document.{Head, Node, Nodes, nil, handle_in, head_in, block_in, is_block}
 use Rattle.tree.specs.Going.{Spot, spots_in, all_spots, all_entries}
@@ -53,9 +53,9 @@ pub record Laid (t : Tables) (doc : Nodes) : Type 0 where
   pub nodes : rows_say t 0 t.nodes ≡ nodes_say 0 (all_spots doc)
   -- and every entry row is some node's
   pub entries : length (all_entries doc) ≡ length t.entries
-  pub node_parts : All (NodeParts t.text) t.nodes
-  pub entry_parts : All (EntryParts t.text) t.entries
-  pub nesting : All (λ s. s.nesting ≤ 32) (all_spots doc)
+  pub node_parts : AllByRecursion (NodeParts t.text) t.nodes
+  pub entry_parts : AllByRecursion (EntryParts t.text) t.entries
+  pub nesting : AllByRecursion (λ s. s.nesting ≤ 32) (all_spots doc)
   pub few_nodes : length t.nodes ≤ 65535
   pub few_entries : length t.entries ≤ 65535
   pub short_text : length t.text ≤ 1048576

@@ -1,6 +1,6 @@
 -- Laws of lists made element by element. Assumes nothing.
 use Rattle.std.proofs.Common.{◌≡◌, ◌+◌, Bool, true, false, cond, List, [], ◌∷◌, ◌++◌, map, filter, sym, refl, ap, ◌∙◌, ap₂, append_assoc, arith}
-use Rattle.std.specs.List.{AllByRecursion as All}
+use Rattle.std.specs.List.{AllByRecursion}
 use Rattle.lists.specs.Each.{for_each, times, Subsequence, empty, kept, passed}
 
 pub each_++ : {X Y : Type 0} (g : X → List Y) (xs ys : List X) → for_each g (xs ++ ys) ≡ for_each g xs ++ for_each g ys
@@ -50,6 +50,6 @@ pub times_++ : {X : Type 0} (test : X → Bool) (xs ys : List X) → times test 
 times_++ test [] ys = omega arith
 times_++ test (x ∷ xs) ys = let h = times_++ test xs ys in omega arith
 
-pub of_each : {X : Type 0} (P : X → Type 0) → ((x : X) → P x) → (xs : List X) → All P xs
+pub of_each : {X : Type 0} (P : X → Type 0) → ((x : X) → P x) → (xs : List X) → AllByRecursion P xs
 of_each P h [] = tt
 of_each P h (x ∷ xs) = (h x, of_each P h xs)

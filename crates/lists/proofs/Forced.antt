@@ -1,7 +1,7 @@
 -- The properties in force are the last of each name. Assumes nothing.
 use Rattle.std.proofs.Common.{◌≡◌, ℕ, ◌+◌, Bool, true, false, cond, ◌||◌, List, [], ◌∷◌, ◌++◌, sym, refl, ap, ◌∙◌, ap₂, append_assoc, arith}
 use Rattle.std.proofs.lemmas.Bool.{or_parts}
-use Rattle.std.specs.List.{AllByRecursion as All}
+use Rattle.std.specs.List.{AllByRecursion}
 use Rattle.std.specs.Str.{bytes_eq}
 use Rattle.tree.specs.Document.{Property}
 use Rattle.lists.specs.Each.{times, Subsequence, empty, kept, passed}
@@ -21,11 +21,11 @@ in_order (p ∷ ps) = go (is_property ps p.name.bytes) (in_order ps)
     go false h = kept h
 
 -- those of ps are in force in before ++ ps
-lasts : (whole before ps : List Property) → whole ≡ before ++ ps → All (InForce whole) (in_force ps)
+lasts : (whole before ps : List Property) → whole ≡ before ++ ps → AllByRecursion (InForce whole) (in_force ps)
 lasts whole before [] e = tt
 lasts whole before (p ∷ ps) e = go (is_property ps p.name.bytes) refl (lasts whole (before ++ p ∷ []) ps (e ∙ sym (append_assoc before (p ∷ []) ps)))
   where
-    go : (b : Bool) → is_property ps p.name.bytes ≡ b → All (InForce whole) (in_force ps) → All (InForce whole) (cond b (in_force ps) (p ∷ in_force ps))
+    go : (b : Bool) → is_property ps p.name.bytes ≡ b → AllByRecursion (InForce whole) (in_force ps) → AllByRecursion (InForce whole) (cond b (in_force ps) (p ∷ in_force ps))
     go true q h = h
     go false q h = (record { before = before; after = ps; among = e; no_later = q }, h)
 

@@ -2,7 +2,7 @@
 use Rattle.std.proofs.Common.{◌≡◌, ℕ, ◌+◌, Bool, true, false, cond, not, ◌&&◌, ◌||◌, List, [], ◌∷◌, ◌++◌, sym, refl, ap, ◌∙◌, ap₂, append_assoc, arith}
 use mathlib.Core.Path.{fun_ext}
 use Rattle.std.proofs.lemmas.Bool.{both_ways}
-use Rattle.std.specs.List.{AllByRecursion as All}
+use Rattle.std.specs.List.{AllByRecursion}
 use Rattle.std.specs.Str.{bytes_eq}
 use Rattle.tree.specs.Document.{Node}
 use Rattle.lists.specs.Each.{times, Subsequence, empty, kept, passed}
@@ -137,14 +137,14 @@ in_order before (c ∷ cs) = go (is_child before (called c)) (in_order (before +
     go true h = passed h
     go false h = kept h
 
-begins : (whole before cs : List Node) → whole ≡ before ++ cs → All (First whole) (firsts (groups_after before cs))
+begins : (whole before cs : List Node) → whole ≡ before ++ cs → AllByRecursion (First whole) (firsts (groups_after before cs))
 begins whole before [] e = tt
 begins whole before (c ∷ cs) e = go (is_child before (called c)) refl (begins whole (before ++ c ∷ []) cs (e ∙ sym (append_assoc before (c ∷ []) cs)))
   where
     others : List Group
     others = groups_after (before ++ c ∷ []) cs
 
-    go : (b : Bool) → is_child before (called c) ≡ b → All (First whole) (firsts others) → All (First whole) (firsts (cond b others (starting c cs ∷ others)))
+    go : (b : Bool) → is_child before (called c) ≡ b → AllByRecursion (First whole) (firsts others) → AllByRecursion (First whole) (firsts (cond b others (starting c cs ∷ others)))
     go true q h = h
     go false q h = (record { before = before; after = cs; among = e; none_before = q }, h)
 

@@ -1,7 +1,7 @@
 -- The parts of a list, told apart by the kinds of their keys. Assumes nothing.
 use Rattle.std.proofs.Common.{◌≡◌, ℕ, suc, ◌<◌, ◌≤◌, Bool, true, false, cond, ◌&&◌, eqb, ◌⊎◌, List, [], ◌∷◌, ◌++◌, map, Some, None, filter, Option, refl, ap, ◌∙◌, ap₂, inl, inr, append-nil, arith, lit<, lit≤}
 use Rattle.std.proofs.lemmas.Bool.{ne_eqb}
-use Rattle.std.specs.List.{AllByRecursion as All}
+use Rattle.std.specs.List.{AllByRecursion}
 use Rattle.std.specs.Str.{bytes_eq}
 use Rattle.tree.specs.Document.{Ident, Node, Argument, Property, head_in, arguments, properties}
 use Rattle.forms.specs.Forms.{Form, has}
@@ -61,7 +61,7 @@ pub widen : {lo hi lo' hi' : ℕ} {xs : List Item} → lo' ≤ lo → hi ≤ hi'
 widen a b done = done
 widen a b (more p q s h) = more (omega arith) (omega arith) s (widen a b h)
 
-pub all_in : {lo hi : ℕ} {xs : List Item} → In lo hi xs → All (λ x. StructKey x.key) xs
+pub all_in : {lo hi : ℕ} {xs : List Item} → In lo hi xs → AllByRecursion (λ x. StructKey x.key) xs
 all_in done = tt
 all_in (more p q s h) = (s, all_in h)
 

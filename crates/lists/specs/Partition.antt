@@ -1,6 +1,6 @@
 -- What the groups of some nodes are, and the properties in force, in words other than those that make them. Assumes nothing.
 use Rattle.std.specs.Prelude.{◌≡◌, ℕ, Bool, cond, List, [], ◌∷◌, map, filter}
-use Rattle.std.specs.List.{AllByRecursion as All}
+use Rattle.std.specs.List.{AllByRecursion}
 use Rattle.std.specs.Str.{bytes_eq}
 use Rattle.tree.specs.Document.{Node, Property}
 use Rattle.lists.specs.Each.{for_each, times, Subsequence}
@@ -29,7 +29,7 @@ pub record Parted (cs : List Node) (gs : List Group) : Type 0 where
   -- whatever the test, as many nodes of the groups pass it as of the nodes: each stands in one group, once
   pub each_node : (test : Node → Bool) → times test (joined gs) ≡ times test cs
   -- a group begins with the first node of its name
-  pub begins : All (First cs) (firsts gs)
+  pub begins : AllByRecursion (First cs) (firsts gs)
   -- and the groups come in the order of those
   pub in_order : Subsequence (firsts gs) cs
 
@@ -41,7 +41,7 @@ pub record Forced (ps qs : List Property) : Type 0 where
   -- of each name among them exactly one, of any other none
   pub each_name : (m : List ℕ) → times (λ p. bytes_eq p.name.bytes m) qs ≡ cond (is_property ps m) 1 0
   -- it is the last of its name
-  pub last : All (InForce ps) qs
+  pub last : AllByRecursion (InForce ps) qs
   -- and each last of its name stands among them, once
   pub every_last : (p : Property) → InForce ps p → properties_called p.name.bytes qs ≡ p ∷ []
   -- in the order of the entries

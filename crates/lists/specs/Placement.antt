@@ -1,6 +1,6 @@
 -- Where what a node has stands in its lists. Assumes nothing.
 use Rattle.std.specs.Prelude.{◌≡◌, ℕ, Bool, false, not, ◌&&◌, List, [], ◌∷◌, Some, None, Decides, filter, nat_eq}
-use Rattle.std.specs.List.{AllByRecursion as All}
+use Rattle.std.specs.List.{AllByRecursion}
 use Rattle.tree.specs.Document.{Node, Argument, Property, head_in, arguments, properties}
 use Rattle.forms.specs.Forms.{Form, nth, has}
 use Rattle.forms.specs.Keys.{Key, name, type, argument_type, argument, args, rest, at_property, at_property_type, property, group, omitted, spelled, same_key}
@@ -101,7 +101,7 @@ pub record Placed (f : Form) (n : Node) (xs : List Item) : Type 0 where
   pub omissions : (i : ℕ) (m : List ℕ) → nth f i ≡ Some m → under (omitted i m) xs ≡ when (unmet n m) omission
   pub no_omission : (i : ℕ) (m : List ℕ) → (nth f i ≡ Some m → ⊥) → under (omitted i m) xs ≡ []
   -- no other key stands in it
-  pub only : All (λ x. StructKey x.key) xs
+  pub only : AllByRecursion (λ x. StructKey x.key) xs
 
 -- the keys of a map without a form
 pub data MapKey : Key → Type 0 where
@@ -114,13 +114,13 @@ pub record Mapped (n : Node) (xs : List Item) : Type 0 where
   pub no_property : (m : List ℕ) → is_property (properties n) m ≡ false → under (property m) xs ≡ []
   pub by_name : (m : List ℕ) → under (group m) xs ≡ gathered (those_called m (children n))
   pub each_child : (test : Node → Bool) → times test (standing xs) ≡ times test (children n)
-  pub only : All (λ x. MapKey x.key) xs
+  pub only : AllByRecursion (λ x. MapKey x.key) xs
 
 -- how the list xs places the nodes of a document
 pub record Collected (ns : List Node) (xs : List Item) : Type 0 where
   pub by_name : (m : List ℕ) → under (group m) xs ≡ gathered (those_called m ns)
   pub each_node : (test : Node → Bool) → times test (standing xs) ≡ times test ns
-  pub only : All (λ x. (m : List ℕ) × (x.key ≡ group m)) xs
+  pub only : AllByRecursion (λ x. (m : List ℕ) × (x.key ≡ group m)) xs
 
 pub record Placement : Type 0 where
   pub structs : (f : Form) (n : Node) → Placed f n (struct_list f n)

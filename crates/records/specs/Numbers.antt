@@ -1,9 +1,9 @@
 -- Numbers in bytes, the lowest first. Assumes nothing.
 use Rattle.std.specs.Prelude.{ℕ, zero, suc, ◌+◌, ◌*◌, ◌/◌, ◌%◌, ◌<◌, Bool, true, ◌&&◌, List, [], ◌∷◌, nat_lt}
-use Rattle.std.specs.List.{AllByRecursion as All}
+use Rattle.std.specs.List.{AllByRecursion}
 
 abbrev pub Bytes : List ℕ → Type 0
-Bytes xs = All (λ x. x < 256) xs
+Bytes xs = AllByRecursion (λ x. x < 256) xs
 
 -- the number that bytes write
 abbrev pub number : List ℕ → ℕ

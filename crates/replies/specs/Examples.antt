@@ -1,6 +1,6 @@
 -- The worked examples, as rows of one table. Assumes nothing.
 use Rattle.std.specs.Prelude.{◌≡◌, ℕ, ◌-◌, ◌^◌, true, List, [], ◌∷◌, ℤ, pos, negsuc, Some, None, codes, Option}
-use Rattle.std.specs.List.{AllByRecursion as All}
+use Rattle.std.specs.List.{AllByRecursion}
 use Rattle.tree.specs.declared.span.Span.{Span}
 use Rattle.tree.specs.Document.{Ident, Value, string, integer, Entry, Argument, Property, Node, node, Block, no_block, block, nil}
 use Rattle.forms.specs.Forms.{Form}
@@ -168,4 +168,4 @@ examples =
 
 -- each row holds
 abbrev pub Examples : Type 0
-Examples = All (Holds forms) examples
+Examples = AllByRecursion (Holds forms) examples

@@ -1,6 +1,6 @@
 -- A document has at most 2^32 nodes and at most 2^32 entries, since their numbers rise below 2^32. Assumes nothing.
 use Rattle.std.proofs.Common.{◌≡◌, ℕ, zero, suc, ◌^◌, ◌<◌, ◌≤◌, List, [], ◌∷◌, map, length, get_or, Some, refl, ap, inl, inr, arith, length-append}
-use Rattle.std.specs.List.{AllByRecursion as All}
+use Rattle.std.specs.List.{AllByRecursion}
 use Rattle.std.proofs.lemmas.List.{length-map}
 use Rattle.tree.specs.declared.handle.NodeHandle.{NodeHandle}
 use Rattle.tree.specs.Document.{Entry, Nodes, handle_in, head_in}
@@ -22,7 +22,7 @@ rising_few ns r below = go (length ns) refl
     go zero e = omega arith
     go (suc k) e = let a = at_least ns r k (omega arith) in let b = below k (omega arith) in omega arith
 
-read_all : {X : Type 0} (P : X → Type 0) (key : X → ℕ) (n : ℕ) → ((x : X) → P x → key x < n) → (xs : List X) → All P xs → (i : ℕ) → i < length (map key xs) → get_or (map key xs) i 0 < n
+read_all : {X : Type 0} (P : X → Type 0) (key : X → ℕ) (n : ℕ) → ((x : X) → P x → key x < n) → (xs : List X) → AllByRecursion P xs → (i : ℕ) → i < length (map key xs) → get_or (map key xs) i 0 < n
 read_all P key n h [] a i l = absurd (omega arith)
 read_all P key n h (x ∷ xs) a zero l = h x a.0
 read_all P key n h (x ∷ xs) a (suc i) l = read_all P key n h xs a.1 i (omega arith)

@@ -1,6 +1,6 @@
 -- Lists that stand in a list. Assumes nothing.
 use Rattle.std.proofs.Common.{◌≡◌, ℕ, ◌+◌, ◌≤◌, List, [], ◌∷◌, ◌++◌, length, take, drop, sym, refl, ap, ◌∙◌, subst, append_assoc, arith, length-append}
-use Rattle.std.specs.List.{AllByRecursion as All}
+use Rattle.std.specs.List.{AllByRecursion}
 
 -- xs stand in ys from at on
 pub record At {X : Type 0} (ys : List X) (at : ℕ) (xs : List X) : Type 0 where
@@ -34,14 +34,14 @@ cuts ys at xs a =
     ap (λ n. take (length xs) (drop n ys)) (sym a.long) ∙ ap (λ l. take (length xs) (drop (length a.before) l)) a.whole ∙ ap (take (length xs)) (drops a.before (xs ++ a.behind)) ∙ takes xs a.behind
 
 -- what all have, they have
-pub all_at : {X : Type 0} (P : X → Type 0) (ys : List X) (at : ℕ) (xs : List X) → At ys at xs → All P ys → All P xs
-all_at P ys at xs a h = first xs a.behind (second a.before (xs ++ a.behind) (subst (All P) a.whole h))
+pub all_at : {X : Type 0} (P : X → Type 0) (ys : List X) (at : ℕ) (xs : List X) → At ys at xs → AllByRecursion P ys → AllByRecursion P xs
+all_at P ys at xs a h = first xs a.behind (second a.before (xs ++ a.behind) (subst (AllByRecursion P) a.whole h))
   where
-    first : (b c : List _) → All P (b ++ c) → All P b
+    first : (b c : List _) → AllByRecursion P (b ++ c) → AllByRecursion P b
     first [] c k = tt
     first (x ∷ b) c k = (k.0, first b c k.1)
 
-    second : (b c : List _) → All P (b ++ c) → All P c
+    second : (b c : List _) → AllByRecursion P (b ++ c) → AllByRecursion P c
     second [] c k = k
     second (x ∷ b) c k = second b c k.1
 

@@ -1,6 +1,6 @@
 -- The limits of every document that a tree means. Assumes nothing.
 use Rattle.std.specs.Prelude.{ℕ, ◌^◌, ◌<◌, ◌≤◌, List, map, Some, None, Option}
-use Rattle.std.specs.List.{AllByRecursion as All}
+use Rattle.std.specs.List.{AllByRecursion}
 use Rattle.tree.specs.Document.{Ident, Value, null, string, integer, float, bool, Entry, Nodes, handle_in, head_in}
 use Rattle.tree.specs.Going.{Spot, EntrySpot, all_spots, all_entries}
 use Rattle.tree.specs.Numbers.{IntegerFits, SpanFits, TextFits, Rising}
@@ -44,5 +44,5 @@ entry_numbers ss = map (λ s. s.self.handle.number) ss
 pub record Lawful (doc : Nodes) : Type 0 where
   pub nodes_rise : Rising (node_numbers (all_spots doc))
   pub entries_rise : Rising (entry_numbers (all_entries doc))
-  pub nodes_fit : All NodeFits (all_spots doc)
-  pub entries_fit : All (λ s. EntryFits s.self) (all_entries doc)
+  pub nodes_fit : AllByRecursion NodeFits (all_spots doc)
+  pub entries_fit : AllByRecursion (λ s. EntryFits s.self) (all_entries doc)

@@ -1,6 +1,6 @@
 -- Which numbers a document may hold. Assumes nothing.
 use Rattle.std.specs.Prelude.{ℕ, ◌^◌, ◌<◌, List, length, ℤ, pos, negsuc, ◌+ℤ◌, ◌*ℤ◌, slice_index}
-use Rattle.std.specs.List.{AllByRecursion as All}
+use Rattle.std.specs.List.{AllByRecursion}
 use Rattle.tree.specs.declared.span.Span.{Span}
 use Rattle.tree.specs.declared.value.Integer.{Integer}
 
@@ -23,7 +23,7 @@ pub record SpanFits (s : Span) : Type 0 where
 
 -- the bytes that may stand in a name, a type or a string: any
 abbrev pub Allowed : List ℕ → Type 0
-Allowed bytes = All (λ b. b < 256) bytes
+Allowed bytes = AllByRecursion (λ b. b < 256) bytes
 
 pub record TextFits (bytes : List ℕ) : Type 0 where
   pub allowed : Allowed bytes
