@@ -1,23 +1,21 @@
 -- Bytes that are accepted are the writing of the document that is answered. Assumes nothing.
-use Rattle.std.proofs.Common.{◌≡◌, ℕ, zero, suc, ◌+◌, ◌-◌, ◌*◌, ◌<◌, ◌≤◌, Bool, true, false, cond, ◌||◌, eqb, ltb, leb, ◌⊎◌, List, [], ◌∷◌, ◌++◌, length, take, drop, Some, None, Ok, Err, Option, Result, sym, refl, ap, ◌∙◌, subst, inl, inr, ⊎_elim, append_assoc, append-nil, arith, length-append, length-drop, take-append-drop, length-take-le, drop-drop}
+use Rattle.std.proofs.Common.{◌≡◌, ℕ, zero, suc, ◌+◌, ◌<◌, ◌≤◌, Bool, true, false, cond, eqb, ltb, leb, List, [], ◌∷◌, ◌++◌, length, take, drop, Ok, Err, Option, sym, refl, ap, ◌∙◌, subst, ⊎_elim, append_assoc, arith, length-append, length-drop, take-append-drop, length-take-le, drop-drop}
 use Rattle.std.specs.List.{AllByRecursion}
 use Rattle.std.proofs.ByRecursion.{All-take, All-drop}
 use Rattle.std.proofs.lemmas.Bool.{ltb-false, leb-true, eqb-true, ne_eqb, cases_eq, cases_Bool, false≢true}
 use Rattle.tree.specs.declared.span.Span.{Span}
-use Rattle.tree.specs.Document.{Ident, Value, null, string, integer, float, bool, Entry, Node, node, Block, block, no_block, Nodes, nil, cons, Head, depth, depth_node, depth_block}
+use Rattle.tree.specs.Document.{Ident, Value, null, Entry, Node, Block, Nodes, depth, depth_node, depth_block}
 use Rattle.tree.specs.Numbers.{SpanFits}
-use Rattle.tree.specs.Outcome.{and_then, over}
-use Rattle.records.specs.declared.fault.Cause.{Cause}
 use Rattle.records.specs.declared.fault.Cause.TheVariants.{Body}
 use Rattle.records.specs.Numbers.{Bytes, number, low}
-use Rattle.records.specs.Records.{record_of, none, Cut, cut}
-use Rattle.records.proofs.Numbers.{low_all, low_take, number_lt, bytes_right}
-use Rattle.records.proofs.Cutting.{record_long, begins}
+use Rattle.records.specs.Records.{record_of, none}
+use Rattle.records.proofs.Numbers.{low_all, low_take, number_lt}
+use Rattle.records.proofs.Cutting.{record_long}
 use Rattle.image_format.specs.Signed.{signed, unsigned}
-use Rattle.image_format.specs.Reading.{Place, Part, Read, located, placed, part, part_of, spanned, ident, some, perhaps, ended, next, value, bool_in, value_in, entry, entries, is_entry, document, block_at, Fore, fore, Front, front, node_at, nodes, start, image}
-use Rattle.image_format.specs.Writing.{PerhapsFits, ValueFits, EntryFits, HeadFits, Fit, NodeFits, BlockFits, Stand, NodeStands, BlockStands, EntriesStand, span_of, ident_of, perhaps_of, value_of, entry_kind, entry_of, entries_of, front_of, node_of, nodes_of, block_of, image_of}
+use Rattle.image_format.specs.Reading.{Place, Read, located, part, part_of, spanned, ident, perhaps, ended, next, value, bool_in, value_in, entry, entries, is_entry, document, block_at, Fore, fore, Front, front, node_at, nodes, start, image}
+use Rattle.image_format.specs.Writing.{PerhapsFits, ValueFits, EntryFits, HeadFits, Fit, NodeFits, BlockFits, Stand, NodeStands, BlockStands, EntriesStand, span_of, ident_of, perhaps_of, value_of, entry_kind, entry_of, entries_of, front_of, node_of, nodes_of, block_of}
 use Rattle.image_format.specs.Law.{Exact}
-use Rattle.image_format.proofs.Basics.{err_ok, ok_ok, then_ok, passes, holds, chosen, over_is}
+use Rattle.image_format.proofs.Basics.{err_ok, ok_ok, then_ok, passes, holds, chosen}
 use Rattle.image_format.proofs.Signs.{unsigned_signed, signed_fits}
 pub use Rattle.records.proofs.Parts.{Goes, PartIs, place, located_ok, part_is, goes_bytes, goes_then, goes_long, goes_all, part_of_is}
 

@@ -1,11 +1,11 @@
 -- What the bytes at a handle say of the document that is made of an image. Assumes nothing.
-use Rattle.std.proofs.Common.{◌≡◌, ℕ, zero, suc, ◌+◌, ◌-◌, ◌*◌, ◌^◌, ◌<◌, ◌≤◌, Bool, true, false, ltb, List, [], ◌∷◌, ◌++◌, length, get_or, take, drop, Some, None, Ok, Err, Option, sym, refl, ap, ◌∙◌, subst, arith, w64, to_z}
+use Rattle.std.proofs.Common.{◌≡◌, ℕ, zero, suc, ◌+◌, ◌-◌, ◌*◌, ◌^◌, ◌≤◌, Bool, true, false, ltb, List, [], ◌∷◌, ◌++◌, length, get_or, take, drop, Some, Ok, Err, Option, sym, refl, ap, ◌∙◌, subst, arith, w64, to_z}
 use Rattle.std.proofs.lemmas.List.{take_all, length-drop}
 use Rattle.std.specs.List.{AllByRecursion}
 use Rattle.std.proofs.ByRecursion.{All-append}
 use Rattle.tree.specs.declared.handle.NodeHandle.{NodeHandle}
 use Rattle.tree.specs.declared.handle.EntryHandle.{EntryHandle}
-use Rattle.tree.specs.Document.{Entry, Nodes, nil, handle_in, head_in}
+use Rattle.tree.specs.Document.{Entry, Nodes, handle_in, head_in}
 use Rattle.tree.specs.Going.{Spot, EntrySpot, spots, all_spots, all_entries, entries_of, entries_from, found, found_entry}
 use Rattle.tree.specs.Limits.{Lawful}
 use Rattle.tree.proofs.Standing.{At, drops, ends}
@@ -14,7 +14,6 @@ use Rattle.records.specs.Numbers.{Bytes, number}
 use Rattle.image_format.specs.Signed.{signed}
 use Rattle.image_format.specs.Reading.{Read, image, held, document_in}
 use Rattle.image_format.specs.Writing.{entry_of, node_of}
-use Rattle.image_format.specs.Law.{Exact}
 use Rattle.image_format.proofs.Accepted.{accepted}
 use Rattle.image_format.proofs.Standing.{climbs_rising}
 use Rattle.image_format.proofs.Within.{EntryStands, Stands, all_stand, lawful}

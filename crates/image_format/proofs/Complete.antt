@@ -1,19 +1,18 @@
 -- Every writing within the limits is accepted. Assumes nothing.
-use Rattle.std.proofs.Common.{◌≡◌, ℕ, zero, suc, ◌+◌, ◌-◌, ◌*◌, ◌^◌, ◌<◌, ◌≤◌, Bool, true, false, cond, ◌||◌, eqb, ltb, leb, List, [], ◌∷◌, ◌++◌, length, take, drop, Some, None, Ok, Err, Option, Result, sym, refl, ap, ◌∙◌, subst, append_assoc, append-nil, add-zero, arith, length-append}
+use Rattle.std.proofs.Common.{◌≡◌, ℕ, zero, suc, ◌+◌, ◌^◌, ◌<◌, ◌≤◌, true, false, cond, eqb, List, [], ◌∷◌, ◌++◌, length, Some, None, Ok, Option, sym, refl, ap, ◌∙◌, subst, append_assoc, append-nil, add-zero, arith, length-append}
 use Rattle.std.specs.List.{AllByRecursion}
-use Rattle.std.proofs.lemmas.Bool.{eq-eqb, le-ltb, le-leb, cond-true, cond-false}
+use Rattle.std.proofs.lemmas.Bool.{le-ltb, le-leb, cond-true, cond-false}
 use Rattle.tree.specs.declared.span.Span.{Span}
 use Rattle.tree.specs.declared.handle.NodeHandle.{NodeHandle}
-use Rattle.tree.specs.Document.{Ident, Value, null, string, integer, float, bool, Entry, Node, node, Block, block, no_block, Nodes, nil, cons, Head, depth, depth_node, depth_block}
+use Rattle.tree.specs.Document.{Ident, Value, null, string, integer, float, bool, Entry, Node, node, Block, block, no_block, Nodes, nil, cons, Head, depth, depth_block}
 use Rattle.tree.specs.Numbers.{SpanFits}
-use Rattle.tree.specs.Outcome.{and_then, over}
-use Rattle.records.specs.Numbers.{number, low}
-use Rattle.records.specs.Records.{record_of, none, next_kind, cut}
-use Rattle.records.proofs.Numbers.{number_low, low_length}
-use Rattle.records.proofs.Cutting.{record_long, cuts, next_record}
+use Rattle.records.specs.Numbers.{low}
+use Rattle.records.specs.Records.{record_of, none, next_kind}
+use Rattle.records.proofs.Numbers.{number_low}
+use Rattle.records.proofs.Cutting.{record_long, next_record}
 use Rattle.image_format.specs.Signed.{signed, unsigned}
-use Rattle.image_format.specs.Reading.{Place, Part, Read, located, placed, part, part_of, spanned, ident, some, perhaps, ended, next, value, bool_in, value_in, entry, entries, is_entry, document, block_at, fore, Front, front, node_at, nodes, start, image}
-use Rattle.image_format.specs.Writing.{PerhapsFits, ValueFits, EntryFits, HeadFits, Fit, NodeFits, BlockFits, Stand, NodeStands, BlockStands, EntriesStand, span_of, ident_of, perhaps_of, value_of, entry_kind, entry_of, entries_of, front_of, node_of, nodes_of, block_of, image_of}
+use Rattle.image_format.specs.Reading.{Place, Read, located, spanned, ident, perhaps, value, value_in, entry, entries, is_entry, document, block_at, fore, front, node_at, nodes, image}
+use Rattle.image_format.specs.Writing.{PerhapsFits, ValueFits, EntryFits, HeadFits, Fit, BlockFits, Stand, NodeStands, BlockStands, EntriesStand, span_of, ident_of, perhaps_of, value_of, entry_kind, entry_of, entries_of, front_of, node_of, nodes_of, block_of}
 use Rattle.image_format.specs.Law.{Exact, Law}
 use Rattle.image_format.proofs.Basics.{then_is}
 use Rattle.image_format.proofs.Signs.{signed_unsigned, unsigned_lt}

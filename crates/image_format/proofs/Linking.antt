@@ -1,10 +1,10 @@
 -- The links of a document, made as its bytes are read. Assumes nothing.
-use Rattle.std.proofs.Common.{◌≡◌, ℕ, zero, suc, ◌+◌, ◌-◌, ◌<◌, ◌≤◌, Bool, true, false, cond, not, eqb, ltb, ◌⊎◌, List, [], ◌∷◌, ◌++◌, length, Some, None, Ok, Err, Option, Result, sym, refl, ap, ◌∙◌, subst, inl, inr, ⊎_elim, append_assoc, append-nil, add-one, arith}
-use Rattle.std.proofs.lemmas.Bool.{cond-true, cond-false, eqb-false, eqb-true, eq-eqb, ne_eqb, lt-ltb, le-ltb, cases_Bool, cases_lt, false≢true}
+use Rattle.std.proofs.Common.{◌≡◌, ℕ, zero, suc, ◌+◌, ◌<◌, ◌≤◌, true, false, cond, eqb, ltb, ◌⊎◌, List, [], ◌∷◌, ◌++◌, length, Some, None, Ok, Err, Option, Result, sym, refl, ap, ◌∙◌, subst, inl, inr, ⊎_elim, append_assoc, append-nil, add-one, arith}
+use Rattle.std.proofs.lemmas.Bool.{cond-true, cond-false, eqb-false, eq-eqb, ne_eqb, lt-ltb, le-ltb, cases_Bool, cases_lt, false≢true}
 use Rattle.tree.specs.declared.handle.NodeHandle.{NodeHandle}
 use Rattle.tree.specs.declared.handle.EntryHandle.{EntryHandle}
-use Rattle.tree.specs.Document.{Entry, Head, Node, node, Block, block, no_block, Nodes, nil, cons, handle_in, head_in, block_in, listed}
-use Rattle.tree.specs.Going.{Spot, spots, spots_in, spots_of, all_spots, all_entries, entries_from, entries_of, first, first_in, first_of}
+use Rattle.tree.specs.Document.{Entry, Node, node, Block, block, no_block, Nodes, nil, cons, handle_in, head_in, listed}
+use Rattle.tree.specs.Going.{Spot, spots, spots_of, entries_from, entries_of, first, first_in, first_of}
 use Rattle.tree.specs.Outcome.{and_then, over}
 use Rattle.index.specs.declared.keyed.Keyed.{Keyed}
 use Rattle.index.specs.declared.link.NodeLink.{NodeLink}
@@ -12,12 +12,12 @@ use Rattle.index.specs.declared.link.EntryLink.{EntryLink}
 use Rattle.index.proofs.Linked.{links_append, entry_links_append}
 use Rattle.index.specs.Links.{link, links, entry_links, links_of, entry_links_of}
 use Rattle.records.specs.declared.fault.RecordFault.{RecordFault}
-use Rattle.records.specs.Records.{none, Cut, cut}
+use Rattle.records.specs.Records.{none, cut}
 use Rattle.records.proofs.Cutting.{none_length, cut_size}
-use Rattle.image_format.specs.Reading.{Place, Part, Read, located, placed, part, part_of, spanned, perhaps, ended, next, value, entry, entries, is_entry, document, block_at, Fore, fore, Front, front, node_at, nodes, start, image, held, document_in}
+use Rattle.image_format.specs.Reading.{Place, Part, Read, located, placed, part, part_of, spanned, perhaps, ended, next, value, entry, entries, is_entry, document, block_at, fore, Front, front, node_at, nodes, start, image}
 use Rattle.image_format.proofs.Basics.{err_ok, ok_ok, then_ok, then_is, holds, over_is}
 use Rattle.image_format.proofs.Accepted.{ended_is}
-use Rattle.image_format.proofs.Runs.{stop, go, keep, keep_all}
+use Rattle.image_format.proofs.Runs.{keep, keep_all}
 use Rattle.image_format.proofs.Passing.{Aside, aside, behind}
 
 -- the links of nodes that parent holds, and of the nodes in their blocks

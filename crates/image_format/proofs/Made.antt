@@ -1,5 +1,5 @@
 -- What is made of bytes. Assumes nothing.
-use Rattle.std.proofs.Common.{◌≡◌, ℕ, suc, ◌+◌, ◌*◌, ◌<◌, ◌≤◌, min, List, [], ◌∷◌, ◌++◌, map, length, get_or, Some, None, Ok, Err, Result, sym, refl, ap, ◌∙◌, subst, arith}
+use Rattle.std.proofs.Common.{◌≡◌, ℕ, suc, ◌+◌, min, List, [], ◌∷◌, map, length, None, Ok, Err, Result, sym, refl, ap, ◌∙◌, subst, arith}
 use Rattle.tree.specs.declared.counts.Counts.{Counts}
 use Rattle.tree.specs.Counts.{counts_of}
 use Rattle.tree.specs.Document.{Nodes, nil, handle_in}

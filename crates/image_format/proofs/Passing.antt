@@ -1,11 +1,11 @@
 -- The reading that keeps only where it stands, as the code has it. Assumes nothing.
-use Rattle.std.proofs.Common.{◌≡◌, ℕ, zero, suc, ◌+◌, ◌<◌, ◌≤◌, Bool, true, false, cond, eqb, leb, length, Some, None, Ok, Err, Option, Result, sym, refl, ap, ◌∙◌, subst, arith}
+use Rattle.std.proofs.Common.{◌≡◌, ℕ, Bool, true, false, cond, eqb, leb, Some, None, Ok, Err, Option, Result, sym, refl, ap, ◌∙◌, arith}
 use Rattle.records.specs.declared.fault.Cause.{Cause}
 use Rattle.records.specs.declared.fault.Cause.TheVariants.{Nesting}
 use Rattle.records.specs.declared.fault.RecordFault.{RecordFault}
 use Rattle.tree.specs.Document.{Value}
 use Rattle.tree.specs.Outcome.{and_then, over}
-use Rattle.image_format.specs.Reading.{Place, Part, Read, fault, located, part, part_of, spanned, ident, perhaps, ended, next, value, entry, Fore, fore}
+use Rattle.image_format.specs.Reading.{Place, Read, fault, located, part, part_of, spanned, ident, perhaps, ended, next, value, entry, Fore, fore}
 use Rattle.image_format.proofs.Runs.{keep, keep_all}
 
 abbrev pub behind : {X : Type 0} → X × Place → Place

@@ -1,20 +1,16 @@
 -- What is read at the handle of a node or an entry of a sound image. Assumes nothing.
-use Rattle.std.proofs.Common.{◌≡◌, ℕ, zero, suc, ◌+◌, ◌*◌, ◌^◌, ◌<◌, ◌≤◌, Bool, true, false, cond, eqb, ltb, List, [], ◌∷◌, ◌++◌, length, get_or, take, drop, Some, None, Ok, Err, Option, Result, sym, refl, ap, ◌∙◌, subst, append_assoc, append-nil, arith, length-append}
-use Rattle.std.specs.List.{AllByRecursion}
+use Rattle.std.proofs.Common.{◌≡◌, ℕ, ◌^◌, ◌<◌, Bool, true, false, cond, eqb, ltb, List, [], ◌∷◌, ◌++◌, length, take, drop, Some, None, Ok, Err, Option, Result, sym, refl, ap, ◌∙◌, subst, append_assoc, append-nil, arith, length-append}
 use Rattle.std.proofs.lemmas.Bool.{le-ltb, eq-eqb, eqb-true, cond-true, cond-false}
 use Rattle.std.proofs.lemmas.List.{take_all, length-drop}
 use Rattle.index.proofs.Found.{none_some}
 use Rattle.tree.specs.declared.span.Span.{Span}
 use Rattle.tree.specs.declared.value.Integer.{Integer}
-use Rattle.tree.specs.declared.handle.NodeHandle.{NodeHandle}
-use Rattle.tree.specs.declared.handle.EntryHandle.{EntryHandle}
-use Rattle.tree.specs.Document.{Ident, Value, null, string, integer, float, bool, Entry, Head, Node, node, Block, block, no_block, Nodes, nil, handle_in, head_in, block_in}
+use Rattle.tree.specs.Document.{Ident, Value, null, string, integer, float, bool, Entry, Head, Node, node, head_in}
 use Rattle.tree.specs.Numbers.{SpanFits}
-use Rattle.tree.proofs.Standing.{At, drops, ends}
 use Rattle.records.specs.Numbers.{number, low}
 use Rattle.records.specs.Records.{record_of, next_kind, Cut, cut}
 use Rattle.records.specs.declared.fault.Cause.{Cause}
-use Rattle.records.proofs.Numbers.{number_low, low_length}
+use Rattle.records.proofs.Numbers.{number_low}
 use Rattle.records.proofs.Cutting.{record_long, cuts, next_record}
 use Rattle.image_format.specs.Signed.{signed, unsigned}
 use Rattle.image_format.specs.Reading.{value_in}

@@ -1,16 +1,14 @@
 -- What a writing says of the handles, and that it is within the limits. Assumes nothing.
-use Rattle.std.proofs.Common.{◌≡◌, ℕ, zero, suc, ◌+◌, ◌-◌, ◌^◌, ◌<◌, ◌≤◌, max, ◌⊎◌, List, [], ◌∷◌, ◌++◌, map, length, get_or, drop, Some, None, Option, sym, refl, ap, ◌∙◌, subst, inl, inr, ⊎_elim, append_assoc, append-nil, arith, length-append}
+use Rattle.std.proofs.Common.{◌≡◌, ℕ, zero, suc, ◌+◌, ◌<◌, ◌≤◌, List, [], ◌∷◌, ◌++◌, length, get_or, Some, None, Option, sym, refl, ap, ◌∙◌, subst, append_assoc, arith, length-append}
 use Rattle.std.specs.List.{AllByRecursion}
-use Rattle.std.proofs.ByRecursion.{All-append}
 use Rattle.tree.specs.declared.handle.NodeHandle.{NodeHandle}
 use Rattle.tree.specs.declared.handle.EntryHandle.{EntryHandle}
-use Rattle.tree.specs.Document.{Entry, Head, Node, node, Block, block, no_block, Nodes, nil, cons, handle_in, head_in, listed, depth, depth_node, depth_block}
-use Rattle.tree.specs.Going.{Spot, EntrySpot, spots, spots_in, spots_of, all_spots, all_entries, entries_from, entries_at, entries_of}
+use Rattle.tree.specs.Document.{Entry, Node, node, Block, block, no_block, Nodes, nil, cons, handle_in}
+use Rattle.tree.specs.Going.{Spot, EntrySpot, spots, spots_of, all_spots, all_entries, entries_from, entries_at, entries_of}
 use Rattle.tree.specs.Limits.{node_numbers, entry_numbers}
 use Rattle.tree.specs.Numbers.{Rising}
-use Rattle.records.specs.Records.{record_of}
 use Rattle.records.proofs.Cutting.{record_long}
-use Rattle.image_format.specs.Writing.{HeadFits, Fit, NodeFits, BlockFits, Stand, NodeStands, BlockStands, EntriesStand, span_of, perhaps_of, value_of, entry_kind, entry_of, entries_of as entry_bytes, front_of, node_of, nodes_of, block_of}
+use Rattle.image_format.specs.Writing.{Stand, BlockStands, EntriesStand, span_of, perhaps_of, value_of, entry_kind, entry_of, entries_of as entry_bytes, front_of, node_of, nodes_of, block_of}
 
 -- numbers from low on, below high, each above the one before
 abbrev pub Climbs : ℕ → ℕ → List ℕ → Type 0

@@ -1,10 +1,10 @@
 -- Where each node and entry of a document stands in its image, and that the document keeps the limits. Assumes nothing.
-use Rattle.std.proofs.Common.{◌≡◌, ℕ, suc, ◌+◌, ◌^◌, ◌<◌, ◌≤◌, max, List, [], ◌∷◌, ◌++◌, length, Some, None, Option, sym, refl, ap, ◌∙◌, subst, append-nil, arith}
+use Rattle.std.proofs.Common.{ℕ, suc, ◌+◌, ◌<◌, ◌≤◌, List, [], ◌∷◌, ◌++◌, length, Some, None, Option, sym, refl, ◌∙◌, subst, append-nil, arith}
 use Rattle.std.specs.List.{AllByRecursion}
 use Rattle.std.proofs.ByRecursion.{All-append, All-weaker}
 use Rattle.tree.specs.declared.handle.NodeHandle.{NodeHandle}
 use Rattle.tree.specs.declared.handle.EntryHandle.{EntryHandle}
-use Rattle.tree.specs.Document.{Ident, Value, null, string, integer, float, bool, Entry, Head, Node, node, Block, block, no_block, Nodes, nil, cons, handle_in, head_in, listed, depth, depth_node, depth_block}
+use Rattle.tree.specs.Document.{Ident, Value, null, string, integer, float, bool, Entry, Node, node, Block, block, no_block, Nodes, nil, cons, handle_in, head_in, listed, depth, depth_node, depth_block}
 use Rattle.tree.specs.Going.{Spot, EntrySpot, spots, spots_in, spots_of, all_spots, all_entries, entries_from, entries_of as all-entries-of}
 use Rattle.tree.specs.Limits as limits
 use Rattle.tree.specs.Limits.{Lawful, node_numbers, entry_numbers}

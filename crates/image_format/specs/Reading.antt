@@ -2,15 +2,13 @@
 use Rattle.std.specs.Prelude.{ℕ, zero, suc, ◌+◌, Bool, true, false, cond, ◌||◌, List, [], ◌∷◌, length, take, drop, Some, None, Ok, Err, Option, Result, ◌==◌, nat_le, nat_lt}
 use Rattle.tree.specs.declared.span.Span.{Span}
 use Rattle.tree.specs.Document.{Ident, Value, null, string, integer, float, bool, Entry, Head, Node, node, Block, block, no_block, Nodes, nil, cons}
-use Rattle.tree.specs.Going.{all_spots, all_entries}
-use Rattle.tree.specs.Outcome.{and_then, over}
+use Rattle.tree.specs.Outcome.{and_then}
 use Rattle.records.specs.Numbers.{number}
 use Rattle.records.specs.Records.{none}
 pub use Rattle.records.specs.Places.{Place, Part, Read, fault, located, next, placed, start}
 unfoldable pub use Rattle.records.specs.Places.{part, part_of}
 use Rattle.records.specs.declared.fault.Cause.{Cause}
-use Rattle.records.specs.declared.fault.Cause.TheVariants.{Size, Missing, Length, Kind, Nesting, Body, After}
-use Rattle.records.specs.declared.fault.RecordFault.{RecordFault}
+use Rattle.records.specs.declared.fault.Cause.TheVariants.{Size, Kind, Nesting, Body, After}
 use Rattle.image_format.specs.Signed.{signed}
 
 -- the span that begins the body b of the record at p, and what follows the span

@@ -1,5 +1,5 @@
 -- The bytes that a document is written as, and its handles. Assumes nothing.
-use Rattle.std.specs.Prelude.{◌≡◌, ℕ, zero, suc, ◌+◌, ◌^◌, ◌<◌, ◌≤◌, Bool, true, false, cond, List, [], ◌∷◌, ◌++◌, length, Some, None, Option}
+use Rattle.std.specs.Prelude.{◌≡◌, ℕ, ◌+◌, ◌^◌, ◌<◌, cond, List, [], ◌∷◌, ◌++◌, length, Some, None, Option}
 use Rattle.std.specs.List.{AllByRecursion}
 use Rattle.tree.specs.declared.span.Span.{Span}
 use Rattle.tree.specs.Document.{Ident, Value, null, string, integer, float, bool, Entry, Head, Node, node, Block, block, no_block, Nodes, nil, cons}

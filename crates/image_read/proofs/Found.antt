@@ -1,11 +1,11 @@
 -- What the steps of the code come to. Assumes nothing.
-use Rattle.std.proofs.Common.{◌≡◌, ℕ, ◌+◌, ◌-◌, ◌<◌, ◌≤◌, List, length, take, drop, Ok, Err, Result, sym, refl, ap, ◌∙◌, subst, arith, length-drop, take_all}
+use Rattle.std.proofs.Common.{◌≡◌, ℕ, ◌+◌, ◌-◌, ◌<◌, ◌≤◌, List, length, take, drop, Ok, Err, ap, ◌∙◌, arith, length-drop, take_all}
 use Rattle.std.proofs.lemmas.Bool.{lt-ltb, le-ltb}
 use Rattle.tree.specs.Outcome.{over}
 use Rattle.records.specs.declared.fault.Cause.{Cause}
 use Rattle.records.specs.declared.fault.Cause.TheVariants.{Body}
 use Rattle.records.specs.Records.{Cut, cut}
-use Rattle.image_format.specs.Reading.{Place, Part, fault, located, placed, part, spanned}
+use Rattle.image_format.specs.Reading.{Place, fault, located, placed, part, spanned}
 use Rattle.image_format.proofs.Passing.{behind}
 
 pub part_refused : (p : Place) (c : Cause) → Err c ≡ cut p.bytes → fault p c ≡ part p

@@ -1,5 +1,5 @@
 -- What a sink was told of an image. Assumes nothing.
-use Rattle.std.specs.Prelude.{◌≡◌, ℕ, List, Some, None, Ok, Err, Option, Result}
+use Rattle.std.specs.Prelude.{◌≡◌, ℕ, List, None, Ok, Err, Option, Result}
 use Rattle.tree.specs.declared.handle.NodeHandle.{NodeHandle}
 use Rattle.tree.specs.Outcome.{over}
 use Rattle.index.specs.declared.keyed.Keyed.{Keyed}

@@ -82,7 +82,7 @@ fn tell_entries<'a, S: Sink>(
     sink: &mut S,
 ) -> Result<Cursor<'a>, Stop>
     requires { Fits start }
-    ensures is { (ns : List (Under NodeLeads)) (es : List (Under EntryLeads)) → told sink.old ns es → ToldEntries (told sink.new) wants node ns es (place_of start.entry) result }
+    ensures is { (ns : List (Under NodeLeads)) (es : List (Under EntryLeads)) → S.told sink.old ns es → ToldEntries (S.told sink.new) S.wants node ns es (place_of start.entry) result }
     ensures later { IfOk result (λ q. Behind start.entry q) }
 {
     let mut rest = start;
@@ -113,7 +113,7 @@ fn tell_block<S: Sink>(
 ) -> Result<(), Stop>
     requires fits { Fits p }
     requires shallow { nesting ≤ 33 }
-    ensures { (x : Both) → told sink.old x.0 x.1 → ToldBlock (told sink.new) wants (Given holder) x nesting (place_of p.entry) result }
+    ensures { (x : Both) → S.told sink.old x.0 x.1 → ToldBlock (S.told sink.new) S.wants (Given holder) x nesting (place_of p.entry) result }
 {
     if p.bytes.is_empty() {
         return Ok(());
@@ -134,7 +134,7 @@ fn tell_nodes<S: Sink>(
 ) -> Result<(), Stop>
     requires fits { Fits start }
     requires shallow { nesting ≤ 33 }
-    ensures { (x : Both) → told sink.old x.0 x.1 → ToldNodes (told sink.new) wants parent x nesting (place_of start.entry) result }
+    ensures { (x : Both) → S.told sink.old x.0 x.1 → ToldNodes (S.told sink.new) S.wants parent x nesting (place_of start.entry) result }
 {
     let mut rest = start;
     while !rest.bytes.is_empty() {
@@ -152,7 +152,7 @@ fn tell_nodes<S: Sink>(
 
 // Tells of all nodes and entries of the image.
 pub fn tell_image<S: Sink>(bytes: &[u8], sink: &mut S) -> Result<(), Stop>
-    ensures { (x : Both) → told sink.old x.0 x.1 → ToldImage (told sink.new) wants x bytes.now result }
+    ensures { (x : Both) → S.told sink.old x.0 x.1 → ToldImage (S.told sink.new) S.wants x bytes.now result }
 {
     if bytes.len() > 1_048_576 {
         return Err(Stop::Fault(RecordFault {

@@ -1,4 +1,4 @@
-use Rattle.std.proofs.Common.{◌≡◌, [], vec_items, sym, refl, ◌∙◌}
+use Rattle.std.proofs.Common.{◌≡◌, [], vec_items, ◌∙◌}
 use Rattle.image_format.proofs.Made.{told_links, no_links}
 use Rattle.image_read.proofs.Tells.{at_fault}
 use Rattle.image_read.proofs.links.keep_all.Goals as goal
@@ -13,6 +13,6 @@ pub returns-in-Fault : goal.returns-in-Fault
 returns-in-Fault c =
     let bs = c.args.bytes.now in
     let told = c.in-Err.ensures ([], []) (c.new.ensures.items, c.new-2.ensures.items) in
-    let t = at_fault (λ ns es. (vec_items c.tell-image.new.sink.nodes ≡ ns) × (vec_items c.tell-image.new.sink.entries ≡ es)) (Unit {0}) ([], []) bs _ _ c.in-Fault.is told in
+    let t = at_fault (λ ns es. (vec_items c.tell_image.new.sink.nodes ≡ ns) × (vec_items c.tell_image.new.sink.entries ≡ es)) (Unit {0}) ([], []) bs _ _ c.in-Fault.is told in
     let l = no_links bs c.in-Fault.field-0 t in
     record { nodes = c.new-in-Fault.ensures.items ∙ l.0; entries = c.new-in-Fault-2.ensures.items ∙ l.1 }

@@ -1,4 +1,4 @@
-use Rattle.std.proofs.Common.{refl, arith, rules}
+use Rattle.std.proofs.Common.{refl, rules}
 use Rattle.image_read.specs.Lent.{place_of}
 use Rattle.image_read.proofs.Found.{spanned_short, spanned_long}
 use Rattle.image_read.proofs.parts.behind_span.Goals as goal

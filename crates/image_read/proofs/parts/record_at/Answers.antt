@@ -1,4 +1,4 @@
-use Rattle.std.proofs.Common.{sym, ap, arith}
+use Rattle.std.proofs.Common.{sym, arith}
 use Rattle.records.specs.Lent.{cut_of}
 use Rattle.records.proofs.Cutting.{cut_size}
 use Rattle.image_read.specs.Lent.{place_of}
@@ -16,14 +16,14 @@ returns-in-Ok c =
       cut = record { body_end = omega arith; after_end = omega arith; sizes = omega arith };
     }
 
-pub overflow-add-result : goal.overflow-add-result
-overflow-add-result c = let size = cut_size c.args.p.bytes.now (cut_of c.in-Ok.cut) (sym c.in-Ok.ensures) in omega arith
+pub overflow_add-result : goal.overflow_add-result
+overflow_add-result c = let size = cut_size c.args.p.bytes.now (cut_of c.in-Ok.cut) (sym c.in-Ok.ensures) in omega arith
 
-pub overflow-add-result-in-Ok : goal.overflow-add-result-in-Ok
-overflow-add-result-in-Ok c = let size = cut_size c.args.p.bytes.now (cut_of c.in-Ok.cut) (sym c.in-Ok.ensures) in omega arith
+pub overflow_add-result-in-Ok : goal.overflow_add-result-in-Ok
+overflow_add-result-in-Ok c = let size = cut_size c.args.p.bytes.now (cut_of c.in-Ok.cut) (sym c.in-Ok.ensures) in omega arith
 
-pub overflow-cast-result : goal.overflow-cast-result
-overflow-cast-result c = let size = cut_size c.args.p.bytes.now (cut_of c.in-Ok.cut) (sym c.in-Ok.ensures) in omega arith
+pub overflow_cast-result : goal.overflow_cast-result
+overflow_cast-result c = let size = cut_size c.args.p.bytes.now (cut_of c.in-Ok.cut) (sym c.in-Ok.ensures) in omega arith
 
-pub overflow-add-result-in-Ok-2 : goal.overflow-add-result-in-Ok-2
-overflow-add-result-in-Ok-2 c = let size = cut_size c.args.p.bytes.now (cut_of c.in-Ok.cut) (sym c.in-Ok.ensures) in omega arith
+pub overflow_add-result-in-Ok-2 : goal.overflow_add-result-in-Ok-2
+overflow_add-result-in-Ok-2 c = let size = cut_size c.args.p.bytes.now (cut_of c.in-Ok.cut) (sym c.in-Ok.ensures) in omega arith

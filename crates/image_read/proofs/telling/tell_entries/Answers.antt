@@ -1,4 +1,4 @@
-use Rattle.std.proofs.Common.{[], ◌∷◌, ◌++◌, sym, refl, ap, ◌∙◌, arith}
+use Rattle.std.proofs.Common.{[], ◌∷◌, ◌++◌, sym, ap, arith}
 use Rattle.std.proofs.lemmas.Result.{err_from_is_err_and}
 use Rattle.index.specs.declared.keyed.Keyed.{Keyed}
 use Rattle.index.specs.declared.link.EntryLink.{EntryLink}
@@ -6,14 +6,14 @@ use Rattle.image_format.proofs.Linking.{entries_end, entries_err, entries_on}
 use Rattle.image_read.specs.Lent.{place_of}
 use Rattle.image_read.proofs.telling.tell_entries.Goals as goal
 
-pub returns-in-err-after : goal.returns-in-err-after
-returns-in-err-after g c =
-    let p = err_from_is_err_and c.from-residual.result c.from-residual.ensures.1 in
-    rw (p.1, p.2) (record { is = λ ns es t. let i = c.loop-node.invariant.2 ns es t in i.2 _ (entries_err c.args.node i.0 (place_of c.loop-node.rest) _ (sym c.loop-node-test.ensures) c.in-err-after.ensures.is); later = tt })
+pub returns-in_err-after : goal.returns-in_err-after
+returns-in_err-after g c =
+    let p = err_from_is_err_and c.from_residual.result c.from_residual.ensures.1 in
+    rw (p.1, p.2) (record { is = λ ns es t. let i = c.loop-node.invariant.2 ns es t in i.2 _ (entries_err c.args.node i.0 (place_of c.loop-node.rest) _ (sym c.loop-node-test.ensures) c.in_err-after.ensures.is); later = tt })
 
 pub loop-node-preserved : goal.loop-node-preserved
 loop-node-preserved g c =
-    let k = c.in-ok-after.ensures in
+    let k = c.in_ok-after.ensures in
     let end = k.later.end in
     let less = k.shorter in
     let inv = c.loop-node.invariant in (
@@ -21,8 +21,8 @@ loop-node-preserved g c =
       omega arith,
       λ ns es t.
           let i = inv.2 ns es t in
-          let link : Keyed EntryLink = record { key = c.loop-node.rest.at; value = record { node = c.args.node; next = c.first-entry.result } } in
-          (i.0 ++ link ∷ [], c.if-not-entry.ensures ns i.0 i.1, λ r h. i.2 r (entries_on c.args.node i.0 _ (place_of c.loop-node.rest) (place_of c.in-ok-after.after) r (sym c.loop-node-test.ensures) k.is (omega arith) (ap (λ n. i.0 ++ record { key = c.loop-node.rest.at; value = record { node = c.args.node; next = n } } ∷ []) c.first-entry.ensures) h)),
+          let link : Keyed EntryLink = record { key = c.loop-node.rest.at; value = record { node = c.args.node; next = c.first_entry.result } } in
+          (i.0 ++ link ∷ [], c.if-not-entry.ensures ns i.0 i.1, λ r h. i.2 r (entries_on c.args.node i.0 _ (place_of c.loop-node.rest) (place_of c.in_ok-after.after) r (sym c.loop-node-test.ensures) k.is (omega arith) (ap (λ n. i.0 ++ record { key = c.loop-node.rest.at; value = record { node = c.args.node; next = n } } ∷ []) c.first_entry.ensures) h)),
     )
 
 pub returns : goal.returns
