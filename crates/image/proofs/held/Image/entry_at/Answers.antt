@@ -1,4 +1,4 @@
-use Rattle.std.proofs.Common.{◌≡◌, sym, subst}
+use Rattle.std.proofs.Common.{sym, subst}
 use Rattle.tree.specs.Going.{found_entry}
 use Rattle.index.specs.Links.{entry_link as link_at}
 use Rattle.index.proofs.Found.{met, unmet}
@@ -10,14 +10,14 @@ use Rattle.image.proofs.held.Image.entry_at.Goals as goal
 pub returns-in-None : goal.returns-in-None
 returns-in-None c = unmet link_at (found_entry (meant c.args.self.now) c.args.e) c.in-None.ensures
 
-pub slice-bounds-result-count : goal.slice-bounds-result-count
-slice-bounds-result-count c =
+pub slice_bounds-result-count : goal.slice_bounds-result-count
+slice_bounds-result-count c =
     let t = c.args.self.now in
     let m = met link_at (found_entry (meant t) c.args.e) _ c.in-Some.ensures in
     (entry_told t.bytes.now (bytes_from_are t.bytes.now t.typed) c.args.e m.value m.is).0
 
-pub slice-bounds-result-start : goal.slice-bounds-result-start
-slice-bounds-result-start c =
+pub slice_bounds-result-start : goal.slice_bounds-result-start
+slice_bounds-result-start c =
     let t = c.args.self.now in
     let m = met link_at (found_entry (meant t) c.args.e) _ c.in-Some.ensures in
     (entry_told t.bytes.now (bytes_from_are t.bytes.now t.typed) c.args.e m.value m.is).0

@@ -1,4 +1,4 @@
-use Rattle.std.proofs.Common.{◌≡◌, sym, subst}
+use Rattle.std.proofs.Common.{sym, subst}
 use Rattle.tree.specs.Going.{found}
 use Rattle.index.specs.Links.{link as link_at}
 use Rattle.index.proofs.Found.{met, unmet}
@@ -10,14 +10,14 @@ use Rattle.image.proofs.held.Image.node_at.Goals as goal
 pub returns-in-None : goal.returns-in-None
 returns-in-None c = unmet link_at (found (meant c.args.self.now) c.args.n) c.in-None.ensures
 
-pub slice-bounds-result-count : goal.slice-bounds-result-count
-slice-bounds-result-count c =
+pub slice_bounds-result-count : goal.slice_bounds-result-count
+slice_bounds-result-count c =
     let t = c.args.self.now in
     let m = met link_at (found (meant t) c.args.n) _ c.in-Some.ensures in
     (node_told t.bytes.now (bytes_from_are t.bytes.now t.typed) c.args.n m.value m.is).0
 
-pub slice-bounds-result-start : goal.slice-bounds-result-start
-slice-bounds-result-start c =
+pub slice_bounds-result-start : goal.slice_bounds-result-start
+slice_bounds-result-start c =
     let t = c.args.self.now in
     let m = met link_at (found (meant t) c.args.n) _ c.in-Some.ensures in
     (node_told t.bytes.now (bytes_from_are t.bytes.now t.typed) c.args.n m.value m.is).0
