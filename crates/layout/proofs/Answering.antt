@@ -1,14 +1,13 @@
 -- What the row of a handle says of the document that is made of tables. Assumes nothing.
-use Rattle.std.proofs.Common.{◌≡◌, ℕ, ◌<◌, List, [], ◌∷◌, length, Some, None, Ok, Err, Option, Result, sym, refl, ap, ◌∙◌, subst, arith}
+use Rattle.std.proofs.Common.{◌≡◌, ℕ, ◌<◌, length, Some, Ok, Err, Option, Result, refl, ap, ◌∙◌, subst}
 use Rattle.std.proofs.ByRecursion.{All-get_or}
-use Rattle.std.specs.Option.{option_map}
 use Rattle.tree.specs.declared.handle.NodeHandle.{NodeHandle}
 use Rattle.tree.specs.declared.handle.EntryHandle.{EntryHandle}
-use Rattle.tree.specs.Document.{Nodes, nil, head_in}
+use Rattle.tree.specs.Document.{Nodes, head_in}
 use Rattle.tree.specs.Going.{Spot, EntrySpot, spots, all_spots, all_entries, found, found_entry}
 use Rattle.layout.specs.Rows.{Tables, head, entry}
 use Rattle.layout.specs.Tables.{blank, row, blank_entry, entry_row, read, held, document}
-use Rattle.layout.specs.Layout.{NodeParts, EntryParts, Laid}
+use Rattle.layout.specs.Layout.{NodeParts, EntryParts}
 use Rattle.layout.specs.declared.rows.NodeRow.{NodeRow}
 use Rattle.layout.specs.declared.rows.EntryRow.{EntryRow}
 use Rattle.layout.specs.declared.fault.TableFault.{TableFault}

@@ -1,11 +1,10 @@
 -- The check, step by step. Assumes nothing.
-use Rattle.std.proofs.Common.{◌≡◌, ℕ, List, length, Ok, Err, Result, sym, refl, ap, ◌∙◌, arith}
+use Rattle.std.proofs.Common.{◌≡◌, length, Ok, Err, Result, sym, refl, ap, ◌∙◌}
 use Rattle.tree.specs.Document.{Nodes}
-use Rattle.tree.specs.Going.{all_spots, all_entries}
 use Rattle.tree.specs.Outcome.{and_then, over}
 use Rattle.layout.specs.Rows.{Tables}
 use Rattle.tree.specs.Counts.{counts_of}
-use Rattle.layout.specs.Tables.{rows, entry_rows, limited, read, checked}
+use Rattle.layout.specs.Tables.{rows, entry_rows, limited, checked}
 use Rattle.layout.specs.Layout.{Laid}
 use Rattle.layout.specs.declared.fault.Table.{Table}
 use Rattle.layout.specs.declared.fault.TableFault.{TableFault}

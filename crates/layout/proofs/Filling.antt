@@ -1,23 +1,23 @@
 -- How the links of a laid out document are made, row by row. Assumes nothing.
-use Rattle.std.proofs.Common.{◌≡◌, ℕ, zero, suc, ◌+◌, ◌-◌, ◌<◌, ◌≤◌, Bool, true, false, cond, ltb, ◌⊎◌, List, [], ◌∷◌, ◌++◌, map, length, get_or, take, drop, Some, None, Ok, Err, Option, sym, refl, ap, ◌∙◌, subst, inl, inr, ⊎_elim, append_assoc, append-nil, add-one, arith, length-drop}
+use Rattle.std.proofs.Common.{◌≡◌, ℕ, zero, suc, ◌+◌, ◌-◌, ◌<◌, ◌≤◌, Bool, true, false, cond, ltb, List, [], ◌∷◌, ◌++◌, length, get_or, take, drop, Some, None, Ok, Option, sym, refl, ap, ◌∙◌, ⊎_elim, append_assoc, append-nil, add-one, arith, length-drop}
 use Rattle.std.proofs.lemmas.List.{drop_more, drop_all, length-take-le}
 use Rattle.std.proofs.lemmas.Bool.{cases_lt, lt-ltb, le-ltb, cond-true, cond-false}
 use Rattle.tree.specs.declared.handle.NodeHandle.{NodeHandle}
 use Rattle.tree.specs.declared.handle.EntryHandle.{EntryHandle}
-use Rattle.tree.specs.Document.{Entry, Head, Node, Block, block, no_block, Nodes, node, nil, cons, handle_in, head_in, block_in, listed}
-use Rattle.tree.specs.Going.{Spot, EntrySpot, spots, spots_in, all_spots, all_entries, entries_from, entries_at, entries_of, first, first_in, first_of}
+use Rattle.tree.specs.Document.{Node, Nodes, node, nil, head_in, listed}
+use Rattle.tree.specs.Going.{Spot, EntrySpot, spots, all_spots, all_entries, entries_from, entries_of, first, first_in, first_of}
 use Rattle.index.specs.declared.keyed.Keyed.{Keyed}
 use Rattle.index.specs.declared.link.NodeLink.{NodeLink}
 use Rattle.index.specs.declared.link.EntryLink.{EntryLink}
 use Rattle.index.proofs.Linked.{links_append, entry_links_append}
-use Rattle.index.specs.Links.{link, entry_link, links, entry_links, links_of, entry_links_of}
+use Rattle.index.specs.Links.{link, links, entry_links}
 use Rattle.layout.specs.Rows as say
 use Rattle.layout.specs.Rows.{Tables, head, picked, entry}
 use Rattle.layout.specs.Tables.{blank, row, blank_entry, next, block_of, rows}
 use Rattle.layout.specs.Layout.{Says, row_says, rows_say, node_says, nodes_say, Laid}
 use Rattle.layout.specs.declared.rows.NodeRow.{NodeRow}
 use Rattle.layout.specs.declared.rows.EntryRow.{EntryRow}
-use Rattle.layout.proofs.Steps.{Fit, Opened, opened, rows_none}
+use Rattle.layout.proofs.Steps.{Fit, opened, rows_none}
 use Rattle.layout.proofs.Laying.{below_is, spots_some, spots_none, empty_inside}
 
 abbrev pub node_number : ℕ → NodeHandle

@@ -1,16 +1,14 @@
 -- The tables that a document is laid out as lay it out. Assumes nothing.
-use Rattle.std.proofs.Common.{◌≡◌, ℕ, zero, suc, ◌+◌, ◌≤◌, Bool, true, false, List, [], ◌∷◌, ◌++◌, length, take, drop, Some, None, Option, sym, refl, ap, ◌∙◌, subst, append_assoc, append-nil, arith, length-append}
+use Rattle.std.proofs.Common.{◌≡◌, ℕ, suc, ◌+◌, true, List, [], ◌∷◌, ◌++◌, length, take, drop, Some, None, Option, sym, refl, ap, ◌∙◌, subst, append_assoc, append-nil, arith, length-append}
 use Rattle.std.specs.List.{AllByRecursion}
 use Rattle.std.proofs.lemmas.Bool.{le-leb}
 use Rattle.tree.specs.declared.handle.NodeHandle.{NodeHandle}
-use Rattle.tree.specs.Document.{Ident, Value, null, string, integer, float, bool, Entry, Head, Nodes, handle_in, head_in, block_in, is_block}
-use Rattle.tree.specs.Going.{Spot, spots_in, all_spots, all_entries, entries_of, entries_from as entry-spots}
+use Rattle.tree.specs.Document.{Ident, Value, null, string, integer, float, bool, Entry, Nodes, handle_in, head_in, block_in, is_block}
+use Rattle.tree.specs.Going.{Spot, spots_in, all_spots, entries_of, entries_from as entry-spots}
 use Rattle.tree.proofs.Standing.{At, left, right, cuts, ends}
-use Rattle.layout.specs.Rows.{Tables, tables, in_text, perhaps, perhaps_in_text, value, value_known, entry, entries_from, picked, head}
-use Rattle.layout.specs.declared.rows.NodeRow.{NodeRow}
-use Rattle.layout.specs.declared.rows.EntryRow.{EntryRow}
-use Rattle.layout.specs.Layout.{Says, rows_say, nodes_say, NodeParts, EntryParts, Laid}
-use Rattle.layout.specs.Laid.{perhaps_text, value_text, part_at, perhaps_row, value_row, entry_text, entry_row, entries_text, entry_rows, node_text, node_row, nodes_text, node_rows, own_entries, laid_out, NodesNumbered, EntriesNumbered, Fits}
+use Rattle.layout.specs.Rows.{Tables, in_text, perhaps, perhaps_in_text, value, value_known, entry, entries_from, picked}
+use Rattle.layout.specs.Layout.{rows_say, nodes_say, NodeParts, EntryParts, Laid}
+use Rattle.layout.specs.Laid.{perhaps_text, value_text, part_at, perhaps_row, value_row, entry_text, entry_row, entries_text, entry_rows, node_text, nodes_text, node_rows, own_entries, laid_out, NodesNumbered, EntriesNumbered, Fits}
 
 -- what stands in a text lies in it
 inside : (ys : List ℕ) (at : ℕ) (xs : List ℕ) → At ys at xs → in_text ys (part_at at xs) ≡ true

@@ -1,19 +1,19 @@
 -- What is read from tables is laid out in them. Assumes nothing.
-use Rattle.std.proofs.Common.{◌≡◌, ℕ, zero, suc, ◌+◌, ◌-◌, ◌<◌, ◌≤◌, Bool, true, false, cond, ◌⊎◌, List, [], ◌∷◌, ◌++◌, length, get_or, take, drop, Some, None, Ok, Err, Option, sym, refl, ap, ◌∙◌, subst, inl, inr, ⊎_elim, append_assoc, append-nil, add-zero, add_assoc, zero-add, add-one, arith, length-append, length-drop}
+use Rattle.std.proofs.Common.{◌≡◌, ℕ, zero, suc, ◌+◌, ◌<◌, ◌≤◌, Bool, true, false, List, [], ◌∷◌, ◌++◌, length, get_or, take, drop, Some, Ok, Option, sym, refl, ap, ◌∙◌, subst, ⊎_elim, append_assoc, add-zero, add_assoc, zero-add, add-one, arith, length-append, length-drop}
 use Rattle.std.specs.List.{AllByRecursion}
-use Rattle.std.proofs.lemmas.List.{drop_more, drop_all, length-take-le}
-use Rattle.std.proofs.ByRecursion.{All-append, All-from_get_or}
+use Rattle.std.proofs.lemmas.List.{length-take-le}
+use Rattle.std.proofs.ByRecursion.{All-append}
 use Rattle.std.proofs.lemmas.Bool.{cases_lt}
 use Rattle.tree.specs.declared.handle.NodeHandle.{NodeHandle}
-use Rattle.tree.specs.Document.{Entry, Head, Node, Block, block, no_block, Nodes, node, nil, cons, handle_in, head_in, block_in, is_block, listed}
-use Rattle.tree.specs.Going.{Spot, spots, spots_in, spots_of, entries_from, entries_of}
+use Rattle.tree.specs.Document.{Entry, Head, Node, Nodes, node, nil, cons, handle_in, head_in, is_block, listed}
+use Rattle.tree.specs.Going.{Spot, spots, spots_in, entries_from, entries_of}
 use Rattle.layout.specs.Rows as say
 use Rattle.layout.specs.Rows.{Tables, head, picked}
 use Rattle.layout.specs.Tables.{blank, row, next, line, block_of, rows}
 use Rattle.layout.specs.Layout.{Says, row_says, rows_say, node_says, nodes_say, NodeParts}
 use Rattle.layout.specs.declared.rows.NodeRow.{NodeRow}
 use Rattle.layout.specs.declared.rows.EntryRow.{EntryRow}
-use Rattle.layout.proofs.Steps.{Fit, Opened, opened, rows_none}
+use Rattle.layout.proofs.Steps.{Fit, opened, rows_none}
 
 -- how many entries some nodes have
 abbrev pub total : List Spot → ℕ
@@ -126,7 +126,7 @@ lays_row t d i to p before inner rest lt within w bare a b =
     let all : spots d p before (cons n rest) ≡ s ∷ (A ++ B) = spots_some d p before n rest ∙ ap (λ l. s ∷ (l ++ B)) (below_is d h (head t r) r.block inner bare) in
     let c = picked_length t r.entries_start r.entries_count w.there in
     let after = line_after t i in
-    let e₁ = w.in-line in
+    let e₁ = w.in_line in
     let e₂ : line t (i + 1) ≡ line t i + length (head t r).entries = omega arith in
     let e₃ : line t (next t i) ≡ line t i + length (head t r).entries + total A = omega (arith, a.lines) in
     let below : length (spots_in d n) ≡ r.below = ap length (below_is d h (head t r) r.block inner bare) ∙ omega (arith, a.count) in

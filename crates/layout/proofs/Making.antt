@@ -1,5 +1,5 @@
 -- The links of the document that is made of tables. Assumes nothing.
-use Rattle.std.proofs.Common.{◌≡◌, ℕ, ◌≤◌, Bool, true, false, List, [], ◌∷◌, ◌++◌, length, is_ok, Some, None, Ok, Err, Result, sym, refl, ap, ◌∙◌, subst, arith}
+use Rattle.std.proofs.Common.{◌≡◌, ◌≤◌, true, false, List, [], ◌++◌, length, is_ok, None, Ok, Err, Result, sym, refl, ap, ◌∙◌, subst, arith}
 use Rattle.std.proofs.lemmas.Bool.{false≢true}
 use Rattle.tree.specs.Document.{Nodes, nil}
 use Rattle.tree.specs.Going.{spots, all_spots, all_entries}
@@ -14,7 +14,6 @@ use Rattle.index.proofs.Linked.{link_keys, entry_link_keys}
 use Rattle.layout.specs.Rows.{Tables}
 use Rattle.tree.specs.Counts.{counts_of}
 use Rattle.layout.specs.Tables.{rows, entry_rows, limited, read, checked, held, document}
-use Rattle.layout.specs.Layout.{Laid}
 use Rattle.layout.specs.Typed.{typed}
 use Rattle.layout.specs.declared.fault.Table.{Table}
 use Rattle.layout.specs.declared.fault.TableFault.{TableFault}

@@ -1,12 +1,11 @@
 -- Where the nodes and entries of a laid out document stand in its tables. Assumes nothing.
-use Rattle.std.proofs.Common.{◌≡◌, ℕ, zero, suc, ◌+◌, ◌-◌, ◌<◌, ◌≤◌, Bool, true, false, cond, eqb, ◌⊎◌, List, [], ◌∷◌, ◌++◌, map, length, get_or, take, drop, Some, None, Option, sym, refl, ap, ◌∙◌, subst, inl, inr, ⊎_elim, add-zero, add_assoc, zero-add, arith, length-append, length-drop}
+use Rattle.std.proofs.Common.{◌≡◌, ℕ, zero, suc, ◌+◌, ◌<◌, ◌≤◌, List, [], ◌∷◌, ◌++◌, length, get_or, take, drop, sym, refl, ap, ◌∙◌, subst, add-zero, zero-add, arith, length-drop}
 use Rattle.std.specs.List.{AllByRecursion}
-use Rattle.std.proofs.lemmas.List.{get_or-take, get_or-drop, length-take-le}
+use Rattle.std.proofs.lemmas.List.{get_or-take, get_or-drop}
 use Rattle.std.proofs.ByRecursion.{All-append}
-use Rattle.std.proofs.lemmas.Bool.{eqb-true, cases_Bool}
 use Rattle.tree.specs.declared.handle.NodeHandle.{NodeHandle}
 use Rattle.tree.specs.Document.{Entry, Nodes, handle_in, head_in}
-use Rattle.tree.specs.Going.{Spot, EntrySpot, all_spots, all_entries, entries_from, entries_at, entries_of, find_spot, find_entry}
+use Rattle.tree.specs.Going.{Spot, EntrySpot, all_spots, entries_from, entries_at, entries_of}
 use Rattle.tree.specs.Limits.{node_numbers, entry_numbers}
 use Rattle.tree.specs.Numbers.{Rising}
 use Rattle.layout.specs.Rows as say

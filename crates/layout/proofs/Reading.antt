@@ -1,26 +1,24 @@
 -- Reading and laying out are one another's inverse. Assumes nothing.
-use Rattle.std.proofs.Common.{◌≡◌, ℕ, zero, suc, ◌+◌, ◌-◌, ◌<◌, ◌≤◌, Bool, true, false, cond, ltb, leb, ◌⊎◌, List, [], ◌∷◌, ◌++◌, length, get_or, take, drop, Some, None, Ok, Err, Option, Result, sym, refl, ap, ◌∙◌, subst, inl, inr, ⊎_elim, append_assoc, append-nil, add-zero, add_assoc, zero-add, add-one, arith, length-append, length-drop}
+use Rattle.std.proofs.Common.{◌≡◌, ℕ, zero, suc, ◌+◌, ◌<◌, ◌≤◌, Bool, true, false, ltb, leb, List, [], ◌∷◌, ◌++◌, length, drop, Some, None, Ok, Err, Option, Result, sym, refl, ap, ◌∙◌, subst, ⊎_elim, append_assoc, append-nil, arith, length-append}
 use Rattle.std.specs.List.{AllByRecursion}
-use Rattle.std.proofs.lemmas.List.{drop_more, drop_all, drop-drop, drop_at, length-take-le}
-use Rattle.std.proofs.ByRecursion.{All-append, All-from_get_or, All-get_or}
+use Rattle.std.proofs.lemmas.List.{drop_all, drop-drop, drop_at}
+use Rattle.std.proofs.ByRecursion.{All-from_get_or, All-get_or}
 use Rattle.std.proofs.lemmas.Bool.{cases_lt, leb-true, le-leb, ltb-true, lt-ltb, cond-true}
 use Rattle.tree.specs.declared.handle.NodeHandle.{NodeHandle}
-use Rattle.tree.specs.Document.{Entry, Head, Node, Block, block, no_block, Nodes, node, nil, cons, handle_in, head_in, block_in, is_block, listed}
-use Rattle.tree.specs.Going.{Spot, spots, spots_in, spots_of, all_spots, all_entries}
+use Rattle.tree.specs.Document.{Head, Node, Block, block, no_block, Nodes, node, nil, cons, handle_in, head_in, block_in, is_block, listed}
+use Rattle.tree.specs.Going.{Spot, spots, spots_in, all_spots}
 use Rattle.tree.specs.Outcome.{and_then, over}
-use Rattle.layout.specs.Rows.{Tables, head, picked, perhaps_in_text, value_known}
+use Rattle.layout.specs.Rows.{Tables, head, perhaps_in_text, value_known}
 use Rattle.tree.specs.Counts.{counts_of}
 use Rattle.layout.specs.Tables.{blank, row, next, line, block_of, rows, judged, entry_cause, entry_rows, limited, read, checked, held, document}
-use Rattle.layout.specs.Layout.{Says, row_says, rows_say, node_says, nodes_say, NodeParts, EntryParts, Laid, Law, Unique, Exact, Made}
-use Rattle.layout.specs.declared.rows.NodeRow.{NodeRow}
+use Rattle.layout.specs.Layout.{Says, row_says, node_says, nodes_say, NodeParts, EntryParts, Laid, Law, Unique, Exact, Made}
 use Rattle.layout.specs.declared.rows.EntryRow.{EntryRow}
 use Rattle.layout.specs.declared.fault.Table.{Table}
-use Rattle.layout.specs.declared.fault.Cause.{Cause}
 use Rattle.layout.specs.declared.fault.TableFault.{TableFault}
 use Rattle.tree.specs.declared.counts.Counts.{Counts}
 use Rattle.layout.proofs.LaidOut.{lays_out}
-use Rattle.layout.proofs.Steps.{Passed, passed, no_cause, let_through, Fit, rows_none, closed}
-use Rattle.layout.proofs.Laying.{total, total_append, total_is, say_append, says_length, say_length, said, said_at, line_after, picked_length, spots_some, spots_none, Lays, lays}
+use Rattle.layout.proofs.Steps.{passed, no_cause, let_through, Fit, rows_none, closed}
+use Rattle.layout.proofs.Laying.{total, total_append, total_is, say_append, says_length, say_length, said, said_at, line_after, spots_some, spots_none, lays}
 
 -- what holds of sound entry rows from k on
 pub record Sound (t : Tables) (k : ℕ) (es : List EntryRow) : Type 0 where

@@ -1,28 +1,26 @@
 -- A laid out document is within the limits. Assumes nothing.
-use Rattle.std.proofs.Common.{◌≡◌, ℕ, zero, suc, ◌+◌, ◌^◌, ◌<◌, ◌≤◌, Bool, true, false, ◌&&◌, ltb, leb, List, [], ◌∷◌, ◌++◌, map, length, get_or, take, drop, ℤ, pos, negsuc, Some, None, Ok, Err, Option, Result, sym, refl, ap, ◌∙◌, subst, arith, length-drop}
+use Rattle.std.proofs.Common.{◌≡◌, ℕ, ◌+◌, ◌^◌, ◌<◌, ◌≤◌, Bool, true, ltb, List, [], ◌∷◌, ◌++◌, length, get_or, take, drop, ℤ, pos, negsuc, Some, None, Ok, Err, Option, Result, sym, refl, ap, ◌∙◌, subst, arith, length-drop}
 use Rattle.std.specs.List.{AllByRecursion}
-use Rattle.std.proofs.ByRecursion.{All-get_or, All-from_get_or, All-take, All-drop}
-use Rattle.std.proofs.lemmas.Bool.{and_parts, and_from, ltb-true, lt-ltb, leb-true, false≢true}
+use Rattle.std.proofs.ByRecursion.{All-get_or, All-take, All-drop}
+use Rattle.std.proofs.lemmas.Bool.{and_parts, and_from, ltb-true, leb-true, false≢true}
 use Rattle.std.proofs.lemmas.List.{length-take-le, take_more, take_all}
 use Rattle.tree.specs.declared.span.Span.{Span}
-use Rattle.tree.specs.Document.{Ident, Entry, Nodes, nil, handle_in, head_in}
-use Rattle.tree.specs.Going.{Spot, EntrySpot, spots, all_spots, all_entries}
+use Rattle.tree.specs.Document.{Nodes, nil, handle_in}
+use Rattle.tree.specs.Going.{spots, all_spots, all_entries}
 use Rattle.tree.specs.Numbers.{Signed, SpanFits, TextFits, Rising}
 use Rattle.tree.specs.Limits.{IdentFits, PerhapsFits, ValueFits, EntryFits, NodeFits, Lawful}
-use Rattle.layout.specs.Rows.{Tables, piece, in_text, ident, perhaps, perhaps_in_text, value, value_known, entry, head}
+use Rattle.layout.specs.Rows.{Tables, piece, in_text, ident, perhaps, perhaps_in_text, value, value_known, entry}
 use Rattle.layout.specs.Tables.{blank, row, blank_entry, entry_row, read, held, document}
 use Rattle.layout.specs.Layout.{NodeParts, EntryParts, Laid}
 use Rattle.layout.specs.Typed.{span_typed, perhaps_typed, signed_typed, value_typed, node_typed, entry_typed, each, typed}
 use Rattle.layout.specs.declared.rows.Part.{Part}
 use Rattle.layout.specs.declared.rows.IdentRow.{IdentRow}
-use Rattle.layout.specs.declared.rows.NodeRow.{NodeRow}
 use Rattle.layout.specs.declared.rows.EntryRow.{EntryRow}
 use Rattle.layout.specs.declared.rows.ValueRow.{ValueRow}
 use Rattle.layout.specs.declared.rows.ValueRow.TheVariants.{Null, String, Integer, Float, Bool as Truth, Unknown}
 use Rattle.layout.specs.declared.fault.TableFault.{TableFault}
-use Rattle.layout.proofs.Laying.{spots_none}
 use Rattle.layout.proofs.Reading.{laid}
-use Rattle.layout.proofs.Placed.{upto_rising, NodeStands, node_stands, node_numbered, EntryStands, entry_stands}
+use Rattle.layout.proofs.Placed.{upto_rising, NodeStands, node_stands, node_numbered, entry_stands}
 
 pub each_all : {X : Type 0} (p : X → Bool) (xs : List X) → each p xs ≡ true → AllByRecursion (λ x. p x ≡ true) xs
 each_all p [] e = tt

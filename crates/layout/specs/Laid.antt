@@ -9,7 +9,7 @@ use Rattle.layout.specs.declared.rows.IdentRow.{IdentRow}
 use Rattle.layout.specs.declared.rows.NodeRow.{NodeRow}
 use Rattle.layout.specs.declared.rows.EntryRow.{EntryRow}
 use Rattle.layout.specs.declared.rows.ValueRow.{ValueRow}
-use Rattle.layout.specs.declared.rows.ValueRow.TheVariants.{Null, String, Integer, Float, Bool as Truth, Unknown}
+use Rattle.layout.specs.declared.rows.ValueRow.TheVariants.{Null, String, Integer, Float, Bool as Truth}
 
 -- the bytes that stand in the text for a name, a type or a value
 abbrev pub perhaps_text : Option Ident → List ℕ

@@ -2,7 +2,7 @@
 use Rattle.std.specs.Prelude.{◌≡◌, ℕ, suc, ◌+◌, ◌≤◌, Bool, true, List, [], ◌∷◌, length, Ok, Err, Result}
 use Rattle.std.specs.List.{AllByRecursion}
 use Rattle.tree.specs.declared.handle.NodeHandle.{NodeHandle}
-use Rattle.tree.specs.Document.{Head, Node, Nodes, nil, handle_in, head_in, block_in, is_block}
+use Rattle.tree.specs.Document.{Head, Nodes, nil, handle_in, head_in, block_in, is_block}
 use Rattle.tree.specs.Going.{Spot, spots_in, all_spots, all_entries}
 use Rattle.layout.specs.Rows.{Tables, in_text, perhaps_in_text, value_known, head}
 use Rattle.tree.specs.Counts.{counts_of}

@@ -1,11 +1,11 @@
 use Rattle.std.proofs.Common.{◌-◌, ◌≤◌, Result}
 use Rattle.layout.specs.declared.fault.TableFault.{TableFault}
 use Rattle.layout.proofs.Steps.{Judges}
-use Rattle.table_check.specs.Given.{goal as tables-in}
+use Rattle.table_check.specs.Given.{given as tables-in}
 use Rattle.table_check.proofs.check.+judge_nodes.Given as goal
 
-abbrev pub decreases-judge-nodes : goal.decreases-judge-nodes
-decreases-judge-nodes l = l.to - l.from
+abbrev pub decreases-judge_nodes : goal.decreases-judge_nodes
+decreases-judge_nodes l = l.to - l.from
 
 -- what is said of the rows from i on is said of all
 abbrev pub invariant-loop-i : goal.invariant-loop-i

@@ -1,6 +1,6 @@
 use Rattle.std.proofs.Common.{◌≡◌, ◌-◌, length, drop}
 use Rattle.layout.specs.Tables.{entry_rows}
-use Rattle.table_check.specs.Given.{goal as tables-in}
+use Rattle.table_check.specs.Given.{given as tables-in}
 use Rattle.table_check.proofs.check.judge_entries.Given as goal
 
 abbrev pub invariant-loop-k : goal.invariant-loop-k

@@ -2,11 +2,11 @@ use Rattle.std.proofs.Common.{◌-◌, ◌≤◌, List, vec_items}
 use Rattle.index.specs.declared.keyed.Keyed.{Keyed}
 use Rattle.index.specs.declared.link.NodeLink.{NodeLink}
 use Rattle.layout.proofs.Filling.{Fills, Whole}
-use Rattle.table_check.specs.Given.{goal as tables-in}
+use Rattle.table_check.specs.Given.{given as tables-in}
 use Rattle.table_links.proofs.linking.+link_nodes.Given as goal
 
-abbrev pub decreases-link-nodes : goal.decreases-link-nodes
-decreases-link-nodes l = l.to - l.from
+abbrev pub decreases-link_nodes : goal.decreases-link_nodes
+decreases-link_nodes l = l.to - l.from
 
 -- the rows from i on are sound, and what fills behind the links of those before i fills behind the first
 abbrev pub invariant-loop-i : goal.invariant-loop-i

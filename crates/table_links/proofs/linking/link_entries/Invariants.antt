@@ -1,7 +1,7 @@
 use Rattle.std.proofs.Common.{◌≡◌, ◌-◌, ◌++◌, length, drop, vec_items}
 use Rattle.index.specs.Links.{entry_links}
 use Rattle.layout.proofs.Filling.{rows_entries}
-use Rattle.table_check.specs.Given.{goal as tables-in}
+use Rattle.table_check.specs.Given.{given as tables-in}
 use Rattle.table_links.proofs.linking.link_entries.Given as goal
 
 -- the links so far, with those of the rows from i on, are all

@@ -1,8 +1,8 @@
-use Rattle.std.proofs.Common.{◌≡◌, ◌+◌, ◌-◌, ◌≤◌, ◌++◌, vec_items}
+use Rattle.std.proofs.Common.{◌≡◌, ◌-◌, ◌≤◌, ◌++◌, vec_items}
 use Rattle.tree.specs.Going.{entries_from}
 use Rattle.index.specs.Links.{entry_links}
 use Rattle.layout.specs.Rows.{picked}
-use Rattle.table_check.specs.Given.{goal as tables-in}
+use Rattle.table_check.specs.Given.{given as tables-in}
 use Rattle.table_links.proofs.linking.link_node_entries.Given as goal
 
 -- the links so far, with those of the rows from k on, are all

@@ -1,4 +1,4 @@
-use Rattle.std.proofs.Common.{◌≡◌, vec_items, refl, ◌∙◌}
+use Rattle.std.proofs.Common.{vec_items, refl, ◌∙◌}
 use Rattle.std.proofs.lemmas.Result.{err_from_is_err_and}
 use Rattle.layout.specs.Tables.{document}
 use Rattle.layout.proofs.Making.{nodes_rise, entries_rise}
@@ -6,26 +6,26 @@ use Rattle.layout.proofs.Reading.{made}
 use Rattle.table_check.specs.Given.{given as tables-in}
 use Rattle.table_links.proofs.links.link.Goals as goal
 
-pub returns-in-err-nodes : goal.returns-in-err-nodes
-returns-in-err-nodes c =
+pub returns-in_err-nodes : goal.returns-in_err-nodes
+returns-in_err-nodes c =
     let t = tables-in c.args.source in
-    let p = err_from_is_err_and c.from-residual.result c.from-residual.ensures.1 in
-    record { typed = c.note-source.ensures; law = made t (document t) refl; nodes = rw p.1 tt; entries = rw p.1 tt }
+    let p = err_from_is_err_and c.from_residual.result c.from_residual.ensures.1 in
+    record { typed = c.note_source.ensures; law = made t (document t) refl; nodes = rw p.1 tt; entries = rw p.1 tt }
 
 pub unreachable-requires : goal.unreachable-requires
 unreachable-requires c =
     let t = tables-in c.args.source in
-    let typed = c.note-source.ensures in
+    let typed = c.note_source.ensures in
     c.in-None.ensures.none
-    (nodes_rise t typed (vec_items c.in-ok-nodes.nodes) c.in-ok-nodes.ensures.nodes)
-    (entries_rise t typed (vec_items c.in-ok-nodes.entries) c.in-ok-nodes.ensures.entries)
+    (nodes_rise t typed (vec_items c.in_ok-nodes.nodes) c.in_ok-nodes.ensures.nodes)
+    (entries_rise t typed (vec_items c.in_ok-nodes.entries) c.in_ok-nodes.ensures.entries)
 
 pub returns : goal.returns
 returns c =
     let t = tables-in c.args.source in
     record {
-      typed = c.note-source.ensures;
+      typed = c.note_source.ensures;
       law = made t (document t) refl;
-      nodes = ∣ c.in-Some.ensures.nodes ∙ c.in-ok-nodes.ensures.nodes ∣₁;
-      entries = ∣ c.in-Some.ensures.entries ∙ c.in-ok-nodes.ensures.entries ∣₁;
+      nodes = ∣ c.in-Some.ensures.nodes ∙ c.in_ok-nodes.ensures.nodes ∣₁;
+      entries = ∣ c.in-Some.ensures.entries ∙ c.in_ok-nodes.ensures.entries ∣₁;
     }

@@ -1,4 +1,3 @@
-use Rattle.std.proofs.Common.{◌≡◌, arith}
 use Rattle.tree.specs.Going.{found_entry}
 use Rattle.index.specs.Links.{entry_link as link_at}
 use Rattle.index.proofs.Found.{met, unmet}

@@ -1,4 +1,3 @@
-use Rattle.std.proofs.Common.{◌≡◌, arith}
 use Rattle.tree.specs.Going.{found}
 use Rattle.index.specs.Links.{link as link_at}
 use Rattle.index.proofs.Found.{met, unmet}
