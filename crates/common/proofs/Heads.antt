@@ -1,5 +1,5 @@
 -- The bytes of a head, put behind others in two steps. Assumes nothing.
-use Rattle.std.proofs.Common.{◌≡◌, ℕ, ◌/◌, ◌%◌, cond, List, [], ◌∷◌, ◌++◌, is_ok, IfOk, Ok, Err, Result, sym, refl, ap, ◌∙◌, append_assoc, arith}
+use Rattle.std.proofs.Common.{◌≡◌, ℕ, ◌/◌, ◌%◌, cond, List, [], ◌∷◌, ◌++◌, is_ok, IfOk, Ok, Err, Result, ap, ◌∙◌, append_assoc, arith}
 use Rattle.records.specs.Numbers.{low}
 
 four : (l : ℕ) → (l % 256) ∷ (l / 256 % 256) ∷ (l / 65536 % 256) ∷ (l / 16777216 % 256) ∷ [] ≡ low 4 l

@@ -1,18 +1,16 @@
 -- What is read as a name or a form was written there, within the limits. Assumes nothing.
-use Rattle.std.proofs.Common.{◌≡◌, ℕ, zero, suc, ◌+◌, ◌<◌, ◌≤◌, Bool, true, false, cond, ◌&&◌, ◌||◌, eqb, ltb, leb, List, [], ◌∷◌, ◌++◌, length, Some, None, Ok, Err, Option, Result, sym, refl, ap, ◌∙◌, subst, arith}
-use Rattle.std.specs.List.{AllByRecursion}
+use Rattle.std.proofs.Common.{◌≡◌, ℕ, ◌+◌, ◌≤◌, false, ◌||◌, eqb, leb, List, length, Some, Ok, ap, ◌∙◌, subst, arith}
 use Rattle.std.proofs.lemmas.Bool.{leb-false, ltb-false, or_parts, eq-eqb}
-use Rattle.records.specs.Numbers.{Bytes}
-use Rattle.records.specs.Records.{record_of, Mark, mark, Cut, cut}
-use Rattle.records.specs.Places.{Place, Part, Read, located, placed, part, part_of}
+use Rattle.records.specs.Records.{record_of, Mark, mark, cut}
+use Rattle.records.specs.Places.{Place, Part, located, placed, part, part_of}
 use Rattle.records.proofs.Results.{ok_ok, then_ok, passes, over_is, holds}
 use Rattle.records.proofs.Cutting.{record_long, cut_mark}
-use Rattle.records.proofs.Parts.{Goes, PartIs, place, located_ok, part_of_is}
+use Rattle.records.proofs.Parts.{Goes, located_ok, part_of_is}
 use Rattle.forms.specs.Forms.{Form, NameFits}
 use Rattle.form_format.specs.Reading.{filled, is_long, name_part, name, form_part, form}
 use Rattle.form_format.specs.Writing.{each, name_of, form_of}
 use Rattle.form_format.specs.Law.{FormFits}
-use Rattle.form_format.proofs.Filling.{Takes, Fills, Sound, fills}
+use Rattle.form_format.proofs.Filling.{Takes, Sound, fills}
 
 -- a record that is found has the length and the kind that its head says
 part_mark : (k : ℕ) (p : Place) (r : Part) → part_of k p ≡ Ok r → (m : Mark) × (mark p.bytes ≡ Some m) × (m.size ≡ 6 + length r.body.bytes) × (m.kind ≡ r.kind)

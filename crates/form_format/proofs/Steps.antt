@@ -1,9 +1,9 @@
 -- One name and one form, as the code reads them. Assumes nothing.
-use Rattle.std.proofs.Common.{◌≡◌, ℕ, ◌+◌, ◌<◌, ◌≤◌, ◌||◌, leb, List, length, Ok, Err, Result, sym, refl, ap, ◌∙◌, subst, arith}
+use Rattle.std.proofs.Common.{◌≡◌, ℕ, ◌+◌, ◌<◌, ◌||◌, leb, List, length, Ok, Err, sym, refl, ap, subst, arith}
 use Rattle.std.proofs.lemmas.Bool.{leb-false, or_parts}
 use Rattle.tree.specs.Outcome.{and_then}
 use Rattle.records.specs.Records.{mark}
-use Rattle.records.specs.Places.{Place, Part, Read}
+use Rattle.records.specs.Places.{Place, Part}
 use Rattle.records.specs.declared.fault.RecordFault.{RecordFault}
 use Rattle.records.proofs.Results.{ok_ok, then_ok, then_is, passes}
 use Rattle.records.proofs.Parts.{part_of_size}

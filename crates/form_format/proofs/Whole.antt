@@ -1,22 +1,20 @@
 -- The reading of a listed set and its writing are one another's inverse. Assumes nothing.
-use Rattle.std.proofs.Common.{◌≡◌, ℕ, zero, suc, ◌+◌, ◌^◌, ◌<◌, ◌≤◌, Bool, true, false, cond, ◌&&◌, ◌||◌, eqb, ltb, leb, List, [], ◌∷◌, ◌++◌, length, Some, None, Ok, Err, Option, Result, sym, refl, ap, ◌∙◌, subst, arith, length-append}
+use Rattle.std.proofs.Common.{◌≡◌, ℕ, ◌+◌, ◌≤◌, false, eqb, ltb, leb, List, [], ◌∷◌, ◌++◌, length, Ok, Err, sym, refl, ap, ◌∙◌, subst, arith}
 use Rattle.std.specs.List.{AllByRecursion}
 use Rattle.std.proofs.lemmas.Bool.{lt-leb, le-ltb, ltb-false, or_from, and_right, cond-false}
 use Rattle.records.specs.Numbers.{Bytes}
-use Rattle.records.specs.Records.{record_of, Mark, mark}
-use Rattle.records.specs.Places.{Place, Part, Read, part_of, start}
-use Rattle.records.specs.declared.fault.RecordFault.{RecordFault}
-use Rattle.records.proofs.Results.{err_ok, ok_ok, passes, then_is}
+use Rattle.records.specs.Records.{record_of, mark}
+use Rattle.records.specs.Places.{Read}
+use Rattle.records.proofs.Results.{ok_ok, passes, then_is}
 use Rattle.records.proofs.Cutting.{record_long, cuts, cut_mark, some_bytes}
 use Rattle.records.proofs.Parts.{place, part_of_reads}
 use Rattle.forms.specs.Forms as forms
 use Rattle.forms.specs.Forms.{Form, NameFits}
 use Rattle.form_format.specs.Reading.{filled, is_long, name_part, name, form_part, form, set_in, held, forms_in}
-use Rattle.form_format.specs.Writing.{each, name_of, form_of, forms_of}
-use Rattle.form_format.specs.Law.{FormFits, Exact, Law, counts_of, Accepts, Unique, Made}
-use Rattle.form_format.specs.declared.counts.FormCounts.{FormCounts}
+use Rattle.form_format.specs.Writing.{each, name_of, form_of}
+use Rattle.form_format.specs.Law.{FormFits, Exact, Law, Unique, Made}
 use Rattle.form_format.proofs.Filling.{Whole, fills, fills_back}
-use Rattle.form_format.proofs.Sound.{name_sound, form_sound}
+use Rattle.form_format.proofs.Sound.{form_sound}
 
 -- the head of a short name is not too long
 not_long : (m rest : List ℕ) → length m ≤ 255 → is_long (mark (record_of 33 m ++ rest)) ≡ false

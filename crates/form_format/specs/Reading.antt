@@ -1,5 +1,5 @@
 -- The list of forms that bytes hold, or their first fault. Assumes nothing.
-use Rattle.std.specs.Prelude.{ℕ, zero, suc, Bool, true, false, cond, ◌&&◌, ◌||◌, List, [], ◌∷◌, length, Some, None, Ok, Err, Option, Result, ◌==◌, nat_le, nat_lt}
+use Rattle.std.specs.Prelude.{ℕ, zero, suc, Bool, false, cond, ◌&&◌, ◌||◌, List, [], ◌∷◌, length, Some, None, Ok, Err, Option, ◌==◌, nat_le, nat_lt}
 use Rattle.tree.specs.Outcome.{and_then}
 use Rattle.records.specs.Records.{Mark, mark, none}
 use Rattle.records.specs.Places.{Place, Part, Read, fault, part_of, start}

@@ -1,5 +1,5 @@
 -- What the index of a set says of its forms. Assumes nothing.
-use Rattle.std.proofs.Common.{◌≡◌, ℕ, ◌+◌, ◌-◌, ◌<◌, ◌≤◌, List, map, length, get_or, Some, None, vec_items, vec_len, sym, refl, ap, ◌∙◌, arith, Bor}
+use Rattle.std.proofs.Common.{◌≡◌, ℕ, ◌+◌, ◌-◌, ◌<◌, ◌≤◌, List, map, length, get_or, Some, None, vec_items, vec_len, sym, ap, ◌∙◌, arith, Bor}
 use mathlib.Core.Logic.{∥∥₁_elim}
 use mathlib.Core.List.{is_set}
 use base.Stored.{Coded-set}
@@ -11,7 +11,7 @@ use Rattle.forms.proofs.Members.{nth_map}
 use Rattle.form_format.specs.contracts.row.FormRow as row
 use Rattle.form_format.specs.declared.row.FormRow.{FormRow}
 use Rattle.form_format.specs.Rows.{joined, rows_from}
-use Rattle.form_format.proofs.Rows.{no_row, RowOf, row_of, rows_length}
+use Rattle.form_format.proofs.Rows.{no_row, row_of, rows_length}
 use Rattle.listed.specs.declared.held.ListedForms.{ListedForms}
 use Rattle.listed.specs.Held.{meant}
 

@@ -9,4 +9,4 @@ returns-then-before-ge64 c = sym (cond-true _ _ _ (le-leb 64 c.args.before c.if-
 
 pub returns : goal.returns
 unfolding form_part
-returns c = c.record-of.ensures ∙ sym (cond-false _ _ _ (lt-leb 64 c.args.before c.if-before-ge64.false))
+returns c = c.record_of.ensures ∙ sym (cond-false _ _ _ (lt-leb 64 c.args.before c.if-before-ge64.false))

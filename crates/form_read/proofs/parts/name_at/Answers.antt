@@ -8,10 +8,10 @@ pub returns-then-before-ge256 : goal.returns-then-before-ge256
 unfolding name_part
 returns-then-before-ge256 c = sym (cond-true _ _ _ (or_left (leb 256 c.args.before) (is_long (mark c.args.bytes.now)) (le-leb 256 c.args.before c.if-before-ge256.true)))
 
-pub returns-then-too-long : goal.returns-then-too-long
+pub returns-then-too_long : goal.returns-then-too_long
 unfolding name_part
-returns-then-too-long c = sym (cond-true _ _ _ (or_right (leb 256 c.args.before) (is_long (mark c.args.bytes.now)) (sym c.if-too-long.ensures)))
+returns-then-too_long c = sym (cond-true _ _ _ (or_right (leb 256 c.args.before) (is_long (mark c.args.bytes.now)) (sym c.if-too_long.ensures)))
 
 pub returns : goal.returns
 unfolding name_part
-returns c = c.record-of.ensures ∙ sym (cond-false _ _ _ (or_from (leb 256 c.args.before) (is_long (mark c.args.bytes.now)) (lt-leb 256 c.args.before c.if-before-ge256.false) (sym c.if-too-long.ensures)))
+returns c = c.record_of.ensures ∙ sym (cond-false _ _ _ (or_from (leb 256 c.args.before) (is_long (mark c.args.bytes.now)) (lt-leb 256 c.args.before c.if-before-ge256.false) (sym c.if-too_long.ensures)))

@@ -6,4 +6,4 @@ pub returns : goal.returns
 returns c = λ fs ms t.
     let l = length-append fs (ms ∷ []) in
     let k = count_more fs ms in
-    (omega (arith, t.0, c.saturating-add-self.ensures), omega (arith, t.1))
+    (omega (arith, t.0, c.saturating_add-self.ensures), omega (arith, t.1))

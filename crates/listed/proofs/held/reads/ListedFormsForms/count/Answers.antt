@@ -4,8 +4,8 @@ use Rattle.form_format.proofs.Whole.{lawful_set}
 use Rattle.listed.proofs.Known.{count_known}
 use Rattle.listed.proofs.held.reads.ListedFormsForms.count.Goals as goal
 
-pub overflow-cast-result : goal.overflow-cast-result
-overflow-cast-result c =
+pub overflow_cast-result : goal.overflow_cast-result
+overflow_cast-result c =
     let t = c.args.self.now in
     let l = (lawful_set t.bytes.now (bytes_from_are t.bytes.now t.typed)).few in
     let k = count_known t in

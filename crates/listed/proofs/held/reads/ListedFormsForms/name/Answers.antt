@@ -2,8 +2,8 @@ use Rattle.std.proofs.Common.{arith}
 use Rattle.listed.proofs.Known.{no_form, no_name, name_stands, name_is}
 use Rattle.listed.proofs.held.reads.ListedFormsForms.name.Goals as goal
 
-pub overflow-add-row : goal.overflow-add-row
-overflow-add-row c =
+pub overflow_add-row : goal.overflow_add-row
+overflow_add-row c =
     let t = c.args.self.now in
     let s = name_stands t c.args.form c.args.position c.in-Some.row c.in-Some.ensures c.if-at-row.true in
     let l = t.names.ok.0 in
