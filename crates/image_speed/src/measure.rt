@@ -6,7 +6,7 @@ use std::time::Instant;
 
 // Prints the least, the middle and the greatest of the times of a job, in nanoseconds.
 fn show(rt: &HostRuntime, job: &str, times: &mut Vec<u128>) -> io::Result<()> {
-    times.sort();
+    times.sort_unstable();
     let n = times.len();
     if n == 0 {
         return Ok(());
