@@ -20,6 +20,7 @@ fn too_long(bytes: &[u8]) -> bool
 }
 
 // The record of the name at `place`, before which `before` names of its form stand.
+#[tactic(auto, unfolding(form_format::specs::Reading::name_part))]
 pub fn name_at(place: u32, bytes: &[u8], before: u32) -> Result<Cut<'_>, RecordFault>
     ensures { over (part_from place bytes.now) result ≡ name_part before (place_at place bytes.now) }
 {
@@ -39,6 +40,7 @@ pub fn name_at(place: u32, bytes: &[u8], before: u32) -> Result<Cut<'_>, RecordF
 }
 
 // The record of the form at `place`, before which `before` forms stand.
+#[tactic(auto, unfolding(form_format::specs::Reading::form_part))]
 pub fn form_at(place: u32, bytes: &[u8], before: u32) -> Result<Cut<'_>, RecordFault>
     ensures { over (part_from place bytes.now) result ≡ form_part before (place_at place bytes.now) }
 {

@@ -1,8 +1,8 @@
 -- Groups and omissions, from what the tree answered. Assumes nothing.
-use Rattle.std.proofs.Common.{◌≡◌, ℕ, Bool, true, false, not, ◌&&◌, List, [], ◌∷◌, ◌++◌, map, Some, None, Option, sym, refl, ap, ◌∙◌, subst}
+use Rattle.std.proofs.Common.{◌≡◌, ℕ, Bool, true, false, not, ◌&&◌, List, [], ◌∷◌, ◌++◌, map, Some, None, Option, sym, ap, ◌∙◌}
 use Rattle.std.proofs.lemmas.Bool.{and_left, and_right}
 use Rattle.tree.specs.declared.handle.NodeHandle.{NodeHandle}
-use Rattle.tree.specs.Document.{Ident, Node, Nodes, head_in, properties, properties_in}
+use Rattle.tree.specs.Document.{Ident, Nodes, head_in, properties, properties_in}
 use Rattle.tree.specs.Going as going
 use Rattle.tree.specs.Going.{Spot, then, found, first, first_of, first_entry, next_sibling}
 use Rattle.tree.specs.Limits.{Lawful}

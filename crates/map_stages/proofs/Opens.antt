@@ -1,12 +1,12 @@
 -- A map that was opened has the whole list to come. Assumes nothing.
-use Rattle.std.proofs.Common.{◌≡◌, ℕ, zero, suc, ◌+◌, ◌^◌, ◌<◌, ◌≤◌, Bool, true, false, cond, ltb, List, [], ◌∷◌, ◌++◌, map, length, Some, None, filter, Option, sym, refl, ap, ◌∙◌, subst, append-nil, arith}
+use Rattle.std.proofs.Common.{◌≡◌, ℕ, suc, ◌+◌, ◌^◌, ◌<◌, ◌≤◌, ltb, List, [], ◌∷◌, ◌++◌, map, length, Some, None, filter, Option, sym, refl, ap, ◌∙◌, subst, append-nil, arith}
 use Rattle.std.proofs.lemmas.Bool.{lt-ltb}
 use Rattle.tree.specs.declared.handle.NodeHandle.{NodeHandle}
 use Rattle.tree.specs.declared.handle.EntryHandle.{EntryHandle}
-use Rattle.tree.specs.Document.{Ident, Entry, Node, Nodes, Argument, Property, head_in, arguments, arguments_from, argument_then, number_after, properties, listed}
+use Rattle.tree.specs.Document.{Ident, Entry, Nodes, Argument, Property, head_in, arguments_from, argument_then, number_after, properties, listed}
 use Rattle.tree.specs.Going.{Spot, found, first_of, first_node}
 use Rattle.tree.specs.Limits.{Lawful}
-use Rattle.spots.specs.Rows.{row, earlier, entry_row}
+use Rattle.spots.specs.Rows.{row, earlier}
 use Rattle.spots.proofs.Rows.{row_top, earlier_top, entry_row_first}
 use Rattle.spots.proofs.Few.{node_few}
 use Rattle.forms.specs.Forms.{Form, form_of}
@@ -19,9 +19,8 @@ use Rattle.lists.specs.Stages.{from_args}
 use Rattle.lists.specs.Lists.{asked, group_item, argument_items, property_items, plain_property, document_list, map_list, struct_list}
 use Rattle.lists.specs.Placement.{Placed, Mapped, Collected}
 use Rattle.lists.proofs.Holds.{placed, mapped, collected}
-use Rattle.map_stages.specs.declared.access.Stage.{Stage}
 use Rattle.map_stages.specs.declared.access.Stage.TheVariants as stage
-use Rattle.map_stages.specs.Coming.{numbered, from_nodes, from_properties, at_stage, of_node, staged}
+use Rattle.map_stages.specs.Coming.{numbered, from_properties, of_node, staged}
 use Rattle.map_stages.specs.Opening.{OpensStruct, OpensMap, OpensDocument}
 
 abbrev fitting : List Argument → List Argument

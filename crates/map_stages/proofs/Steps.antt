@@ -1,9 +1,9 @@
 -- Each stage of a node's map gives the next part of its list. Assumes nothing.
-use Rattle.std.proofs.Common.{◌≡◌, ℕ, zero, suc, ◌+◌, ◌-◌, ◌*◌, ◌^◌, ◌<◌, ◌≤◌, Bool, true, false, cond, not, ◌&&◌, ltb, List, [], ◌∷◌, ◌++◌, map, length, drop, Some, None, filter, Option, sym, refl, ap, ◌∙◌, subst, append_assoc, add-one, arith}
+use Rattle.std.proofs.Common.{◌≡◌, ℕ, suc, ◌+◌, ◌^◌, ◌<◌, ◌≤◌, true, false, cond, ltb, List, [], ◌∷◌, ◌++◌, map, length, drop, Some, None, filter, Option, sym, refl, ap, ◌∙◌, subst, append_assoc, add-one, arith}
 use Rattle.std.proofs.lemmas.Bool.{lt-ltb, le-ltb}
 use Rattle.tree.specs.declared.handle.NodeHandle.{NodeHandle}
 use Rattle.tree.specs.declared.handle.EntryHandle.{EntryHandle}
-use Rattle.tree.specs.Document.{Ident, Entry, Node, Nodes, Argument, Property, head_in, arguments, arguments_from, argument_then, number_after, properties_in, property_then, listed, within, block_in}
+use Rattle.tree.specs.Document.{Ident, Entry, Node, Nodes, Argument, head_in, arguments, arguments_from, argument_then, number_after, properties_in, property_then}
 use Rattle.tree.specs.Going.{Spot, EntrySpot, found, found_entry, first, first_of}
 use Rattle.tree.specs.Limits.{Lawful}
 use Rattle.spots.specs.Rows.{row, row_of, earlier, entry_row, entry_row_of, inner, inner_of, entries}
@@ -15,20 +15,19 @@ use Rattle.forms.specs.Keys as keys
 use Rattle.forms.proofs.Members.{nth_some, nth_none, nth_below}
 use Rattle.lists.specs.Each.{when, if_some, for_each}
 use Rattle.lists.specs.Properties.{is_property, in_force}
-use Rattle.lists.specs.Groups.{Group, called, children, those_called, groups_after}
+use Rattle.lists.specs.Groups.{called, children, those_called, groups_after}
 use Rattle.lists.specs.Places as places
 use Rattle.lists.specs.Places.{value, identifier, arg_list, omission}
 use Rattle.lists.specs.Lists.{item, asked, group_item, argument_items, property_items, plain_property, unasked, unmet, omission_items}
-use Rattle.lists.specs.Stages.{from_position, from_rest, from_args, argument_itself, property_type, property_plain, property_of}
+use Rattle.lists.specs.Stages.{from_position, from_args, argument_itself, property_type, property_plain, property_of}
 use Rattle.lists.proofs.Stepping.{next_property}
 use Rattle.places.specs.declared.item.Item.{Item}
 use Rattle.places.specs.Meant.{item_meant}
 use Rattle.map_stages.specs.declared.access.Stage.{Stage}
 use Rattle.map_stages.specs.declared.access.Stage.TheVariants as stage
-use Rattle.map_stages.specs.declared.access.Turn.{Turn}
 use Rattle.map_stages.specs.declared.access.Turn.TheVariants.{End, Pass, Give}
-use Rattle.map_stages.specs.Coming.{self_of, after_of, numbered, form_in, from_nodes, from_properties, from_arguments, from_type, at_stage, of_node, staged}
-use Rattle.map_stages.specs.Turning.{Turned, left, Falls, Moves}
+use Rattle.map_stages.specs.Coming.{self_of, after_of, numbered, form_in, from_nodes, from_properties, from_arguments, at_stage, of_node, staged}
+use Rattle.map_stages.specs.Turning.{left, Moves}
 
 abbrev fitting : List Argument → List Argument
 fitting as' = filter (λ (a : Argument). ltb a.number (2 ^ 32)) as'

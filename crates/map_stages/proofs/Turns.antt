@@ -1,21 +1,20 @@
 -- What each stage gives, from what the tree and the forms answered. Assumes nothing.
-use Rattle.std.proofs.Common.{◌≡◌, ℕ, suc, ◌+◌, ◌^◌, ◌<◌, ◌≤◌, Bool, true, false, cond, ltb, List, [], ◌∷◌, ◌++◌, Some, None, Option, sym, refl, ap, ◌∙◌, subst, arith}
+use Rattle.std.proofs.Common.{◌≡◌, ℕ, ◌+◌, ◌^◌, ◌<◌, Bool, true, false, cond, ltb, List, [], ◌∷◌, ◌++◌, Some, None, Option, sym, refl, ap, ◌∙◌, subst}
 use Rattle.std.proofs.lemmas.Bool.{ltb-false}
 use Rattle.tree.specs.declared.handle.NodeHandle.{NodeHandle}
 use Rattle.tree.specs.declared.handle.EntryHandle.{EntryHandle}
 use Rattle.tree.specs.declared.span.Span.{Span}
-use Rattle.tree.specs.Document.{Ident, Entry, Node, Nodes, head_in, arguments, properties_in}
+use Rattle.tree.specs.Document.{Ident, Node, Nodes, head_in, arguments, properties_in}
 use Rattle.tree.specs.Going.{Spot, EntrySpot, then, found, found_entry, first, first_of, first_entry, next_entry, next_sibling, node_type, entry_name, entry_type, entry_span}
 use Rattle.tree.specs.Limits.{Lawful}
 use Rattle.spots.specs.Rows.{row, earlier, entry_row, entry_row_of, inner, inner_of}
 use Rattle.spots.proofs.Finding.{none_some}
 use Rattle.spots.proofs.Rows.{entry_row_next}
 use Rattle.forms.specs.Forms.{Form, nth, has, form_of, name_at}
-use Rattle.forms.specs.Keys.{name, type, argument_type, argument, args, rest, at_property, at_property_type, property, omitted, spelled}
+use Rattle.forms.specs.Keys.{type, argument_type, argument, rest, at_property, at_property_type, property, omitted, spelled}
 use Rattle.lists.specs.Each.{when}
 use Rattle.lists.specs.Properties.{is_property}
-use Rattle.lists.specs.Groups.{Group, called, children, those_called, groups_after}
-use Rattle.lists.specs.Places as places
+use Rattle.lists.specs.Groups.{called, those_called, groups_after}
 use Rattle.lists.specs.Places.{value, identifier, arg_list, omission}
 use Rattle.lists.specs.Lists.{item, asked, group_item, plain_property, unasked, unmet}
 use Rattle.lists.specs.Stages.{property_of}
@@ -30,7 +29,7 @@ use Rattle.map_stages.specs.declared.access.Turn.{Turn}
 use Rattle.map_stages.specs.declared.access.Turn.TheVariants.{End, Pass, Give}
 use Rattle.map_stages.specs.Coming.{form_in}
 use Rattle.map_stages.specs.Turning.{Moves}
-use Rattle.map_stages.proofs.Steps.{Step, passed, given, asked_given, asked_passed, step_name, step_type, step_no_type, step_arguments_end, step_pass_property, step_argument_type, step_argument_no_type, step_argument, step_argument_last, step_pass_argument, step_overridden, step_at_property, step_property_type, step_property_no_type, step_property, step_no_property_type, step_no_property, step_no_argument, step_lost_type, step_lost_property, step_args, step_rest, step_properties_end, step_groups_end, step_group, omissions_end, step_omission}
+use Rattle.map_stages.proofs.Steps.{Step, passed, given, asked_given, asked_passed, step_type, step_no_type, step_arguments_end, step_pass_property, step_argument_type, step_argument_no_type, step_argument, step_argument_last, step_pass_argument, step_overridden, step_at_property, step_property_type, step_property_no_type, step_property, step_no_property_type, step_no_property, step_no_argument, step_lost_type, step_lost_property, step_rest, step_properties_end, step_groups_end, step_group, omissions_end, step_omission}
 
 -- an entry that has a span stands in the document, and one that has none does not
 pub there : (d : Nodes) (e : EntryHandle) (sp : Span) → Some sp ≡ entry_span d e → (x : EntrySpot) × (found_entry d e ≡ Some x)

@@ -1,8 +1,7 @@
 -- The list still to come of a map that is handed out. Assumes nothing.
-use Rattle.std.specs.Prelude.{ℕ, suc, ◌^◌, List, [], ◌∷◌, ◌++◌, map, Some, None, filter, Option, nat_lt}
+use Rattle.std.specs.Prelude.{ℕ, suc, ◌^◌, List, [], ◌++◌, map, Some, None, filter, Option, nat_lt}
 use Rattle.tree.specs.declared.handle.NodeHandle.{NodeHandle}
-use Rattle.tree.specs.declared.handle.EntryHandle.{EntryHandle}
-use Rattle.tree.specs.Document.{Entry, Node, Nodes, Argument, head_in, arguments, arguments_from, properties_in}
+use Rattle.tree.specs.Document.{Entry, Node, Nodes, Argument, head_in, arguments_from, properties_in}
 use Rattle.tree.specs.Going.{Spot, EntrySpot, found, found_entry}
 use Rattle.spots.specs.Rows.{row, earlier, entry_row}
 use Rattle.forms.specs.Forms.{Form, form_of}

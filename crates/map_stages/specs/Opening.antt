@@ -1,5 +1,5 @@
 -- What is to come of a map that was opened. Assumes nothing.
-use Rattle.std.specs.Prelude.{◌≡◌, ℕ, List, Some, None, Option}
+use Rattle.std.specs.Prelude.{◌≡◌, ℕ, List, Some}
 use Rattle.tree.specs.declared.handle.NodeHandle.{NodeHandle}
 use Rattle.tree.specs.Document.{Nodes, listed}
 use Rattle.tree.specs.Going.{Spot, found}

@@ -1,12 +1,11 @@
 -- What one stage gives, and how far it is from the end. Assumes nothing.
-use Rattle.std.specs.Prelude.{◌≡◌, ℕ, suc, ◌+◌, ◌-◌, ◌*◌, ◌<◌, List, [], ◌∷◌, length, Some, None, Option}
+use Rattle.std.specs.Prelude.{◌≡◌, ℕ, ◌+◌, ◌-◌, ◌*◌, ◌<◌, List, [], ◌∷◌, length, Option}
 use Rattle.tree.specs.declared.handle.NodeHandle.{NodeHandle}
 use Rattle.tree.specs.Document.{Nodes}
-use Rattle.tree.specs.Going.{found, found_entry}
+use Rattle.tree.specs.Going.{found_entry}
 use Rattle.spots.specs.Rows.{row, earlier, entry_row, inner, entries}
 use Rattle.forms.specs.Forms.{Form}
 use Rattle.lists.specs.Groups.{groups_after}
-use Rattle.places.specs.declared.item.Item.{Item}
 use Rattle.places.specs.Meant.{item_meant}
 use Rattle.map_stages.specs.declared.access.Stage.{Stage}
 use Rattle.map_stages.specs.declared.access.Stage.TheVariants as stage

@@ -1,6 +1,6 @@
 -- What the places, keys and items of the code stand for. Assumes nothing.
 use Rattle.std.specs.Prelude.{ℕ, List, [], Some, None, Option}
-use Rattle.tree.specs.Document.{Ident, Entry, Node, Nodes, head_in, listed, arguments}
+use Rattle.tree.specs.Document.{Ident, Entry, Nodes, head_in, listed, arguments}
 use Rattle.tree.specs.Going.{Spot, EntrySpot, found, found_entry}
 use Rattle.forms.specs.Forms.{Form, name_at, form_of}
 use Rattle.forms.specs.Keys as keys

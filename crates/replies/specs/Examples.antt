@@ -1,5 +1,5 @@
 -- The worked examples, as rows of one table. Assumes nothing.
-use Rattle.std.specs.Prelude.{◌≡◌, ℕ, ◌-◌, ◌^◌, true, List, [], ◌∷◌, ℤ, pos, negsuc, Some, None, codes, Option}
+use Rattle.std.specs.Prelude.{◌≡◌, ℕ, ◌-◌, ◌^◌, true, List, [], ◌∷◌, ℤ, pos, negsuc, Some, None, codes}
 use Rattle.std.specs.List.{AllByRecursion}
 use Rattle.tree.specs.declared.span.Span.{Span}
 use Rattle.tree.specs.Document.{Ident, Value, string, integer, Entry, Argument, Property, Node, node, Block, no_block, block, nil}

@@ -6,14 +6,14 @@ use Rattle.map_turns.proofs.arguments.argument_type_turn.Goals as goal
 pub returns-in-None : goal.returns-in-None
 returns-in-None g c = λ x is. arguments_none (g.T.Tree.meaning c.args.tree.now) (g.T.Tree.lawful c.args.tree.now) (g.F.Forms.meaning c.args.forms.now) c.args.node c.args.form x is c.args.at c.args.number c.in-None.is
 
-pub returns-in-None-entry-span : goal.returns-in-None-entry-span
-returns-in-None-entry-span g c = λ x is. arguments_gone (g.T.Tree.meaning c.args.tree.now) (g.T.Tree.lawful c.args.tree.now) (g.F.Forms.meaning c.args.forms.now) c.args.node c.args.form x is c.args.at c.args.number c.in-Some.e c.in-Some.is c.in-None-entry-span.ensures
+pub returns-in-None-entry_span : goal.returns-in-None-entry_span
+returns-in-None-entry_span g c = λ x is. arguments_gone (g.T.Tree.meaning c.args.tree.now) (g.T.Tree.lawful c.args.tree.now) (g.F.Forms.meaning c.args.forms.now) c.args.node c.args.form x is c.args.at c.args.number c.in-Some.e c.in-Some.is c.in-None-entry_span.ensures
 
-pub returns-in-Some-entry-name : goal.returns-in-Some-entry-name
-returns-in-Some-entry-name g c = λ x is. argument_property (g.T.Tree.meaning c.args.tree.now) (g.T.Tree.lawful c.args.tree.now) (g.F.Forms.meaning c.args.forms.now) c.args.node c.args.form x is c.args.at c.args.number c.in-Some.e c.in-Some-entry-span.field-0 c.in-Some.is c.in-Some-entry-span.ensures (ident_of c.in-Some-entry-name.field-0) c.next-entry.result c.in-Some-entry-name.ensures c.next-entry.ensures
+pub returns-in-Some-entry_name : goal.returns-in-Some-entry_name
+returns-in-Some-entry_name g c = λ x is. argument_property (g.T.Tree.meaning c.args.tree.now) (g.T.Tree.lawful c.args.tree.now) (g.F.Forms.meaning c.args.forms.now) c.args.node c.args.form x is c.args.at c.args.number c.in-Some.e c.in-Some-entry_span.field-0 c.in-Some.is c.in-Some-entry_span.ensures (ident_of c.in-Some-entry_name.field-0) c.next_entry.result c.in-Some-entry_name.ensures c.next_entry.ensures
 
-pub returns-in-None-entry-type : goal.returns-in-None-entry-type
-returns-in-None-entry-type g c = λ x is. argument_untyped (g.T.Tree.meaning c.args.tree.now) (g.T.Tree.lawful c.args.tree.now) (g.F.Forms.meaning c.args.forms.now) c.args.node c.args.form x is c.args.at c.args.number c.in-Some.e c.in-Some-entry-span.field-0 c.in-Some.is c.in-Some-entry-span.ensures (omega (arith, c.ranges.number.fits)) c.in-None-entry-name.ensures c.in-None-entry-type.ensures
+pub returns-in-None-entry_type : goal.returns-in-None-entry_type
+returns-in-None-entry_type g c = λ x is. argument_untyped (g.T.Tree.meaning c.args.tree.now) (g.T.Tree.lawful c.args.tree.now) (g.F.Forms.meaning c.args.forms.now) c.args.node c.args.form x is c.args.at c.args.number c.in-Some.e c.in-Some-entry_span.field-0 c.in-Some.is c.in-Some-entry_span.ensures (omega (arith, c.ranges.number.fits)) c.in-None-entry_name.ensures c.in-None-entry_type.ensures
 
-pub returns-in-Some-entry-type : goal.returns-in-Some-entry-type
-returns-in-Some-entry-type g c = λ x is. argument_typed (g.T.Tree.meaning c.args.tree.now) (g.T.Tree.lawful c.args.tree.now) (g.F.Forms.meaning c.args.forms.now) c.args.node c.args.form x is c.args.at c.args.number c.in-Some.e c.in-Some-entry-span.field-0 c.in-Some.is c.in-Some-entry-span.ensures (ident_of c.in-Some-entry-type.field-0) c.numbered.result (omega (arith, c.ranges.number.fits)) c.in-None-entry-name.ensures c.in-Some-entry-type.ensures c.numbered.ensures
+pub returns-in-Some-entry_type : goal.returns-in-Some-entry_type
+returns-in-Some-entry_type g c = λ x is. argument_typed (g.T.Tree.meaning c.args.tree.now) (g.T.Tree.lawful c.args.tree.now) (g.F.Forms.meaning c.args.forms.now) c.args.node c.args.form x is c.args.at c.args.number c.in-Some.e c.in-Some-entry_span.field-0 c.in-Some.is c.in-Some-entry_span.ensures (ident_of c.in-Some-entry_type.field-0) c.numbered.result (omega (arith, c.ranges.number.fits)) c.in-None-entry_name.ensures c.in-Some-entry_type.ensures c.numbered.ensures

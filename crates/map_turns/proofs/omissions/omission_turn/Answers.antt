@@ -9,11 +9,11 @@ returns-in-None g c = λ x is. omissions_formless (g.T.Tree.meaning c.args.tree.
 pub returns-in-None-name : goal.returns-in-None-name
 returns-in-None-name g c = λ x is. omissions_over (g.T.Tree.meaning c.args.tree.now) (g.T.Tree.lawful c.args.tree.now) (g.F.Forms.meaning c.args.forms.now) c.args.node c.args.form x is c.args.position c.in-Some.i c.in-Some.is c.in-None-name.ensures
 
-pub overflow-add-next : goal.overflow-add-next
-overflow-add-next g c = let h = position_below (g.F.Forms.meaning c.args.forms.now) c.in-Some.i c.args.position c.in-Some-name.name.now (g.F.Forms.lawful c.args.forms.now) (sym c.in-Some-name.ensures) in omega arith
+pub overflow_add-next : goal.overflow_add-next
+overflow_add-next g c = let h = position_below (g.F.Forms.meaning c.args.forms.now) c.in-Some.i c.args.position c.in-Some-name.name.now (g.F.Forms.lawful c.args.forms.now) (sym c.in-Some-name.ensures) in omega arith
 
-pub returns-then-is-unmet : goal.returns-then-is-unmet
-returns-then-is-unmet g c = λ x is. omission_given (g.T.Tree.meaning c.args.tree.now) (g.T.Tree.lawful c.args.tree.now) (g.F.Forms.meaning c.args.forms.now) c.args.node c.args.form x is c.args.position c.in-Some.i c.in-Some.is c.in-Some-name.name.now c.in-Some-name.ensures _ (c.if-is-unmet.ensures x is) refl
+pub returns-then-is_unmet : goal.returns-then-is_unmet
+returns-then-is_unmet g c = λ x is. omission_given (g.T.Tree.meaning c.args.tree.now) (g.T.Tree.lawful c.args.tree.now) (g.F.Forms.meaning c.args.forms.now) c.args.node c.args.form x is c.args.position c.in-Some.i c.in-Some.is c.in-Some-name.name.now c.in-Some-name.ensures _ (c.if-is_unmet.ensures x is) refl
 
-pub returns-else-is-unmet : goal.returns-else-is-unmet
-returns-else-is-unmet g c = λ x is. omission_passed (g.T.Tree.meaning c.args.tree.now) (g.T.Tree.lawful c.args.tree.now) (g.F.Forms.meaning c.args.forms.now) c.args.node c.args.form x is c.args.position c.in-Some.i c.in-Some.is c.in-Some-name.name.now c.in-Some-name.ensures (c.if-is-unmet.ensures x is)
+pub returns-else-is_unmet : goal.returns-else-is_unmet
+returns-else-is_unmet g c = λ x is. omission_passed (g.T.Tree.meaning c.args.tree.now) (g.T.Tree.lawful c.args.tree.now) (g.F.Forms.meaning c.args.forms.now) c.args.node c.args.form x is c.args.position c.in-Some.i c.in-Some.is c.in-Some-name.name.now c.in-Some-name.ensures (c.if-is_unmet.ensures x is)

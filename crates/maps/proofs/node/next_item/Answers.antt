@@ -1,4 +1,4 @@
-use Rattle.std.proofs.Common.{◌≡◌, ◌∷◌, sym, refl, ap, ◌∙◌}
+use Rattle.std.proofs.Common.{◌∷◌, sym, refl, ap, ◌∙◌}
 use Rattle.map_stages.specs.declared.access.NodeMapAccess.{NodeMapAccess}
 use Rattle.places.specs.Meant.{item_meant}
 use Rattle.map_stages.specs.Coming.{staged, coming}
