@@ -3,8 +3,8 @@
 
     tools/respell.py [FOLDER]
 
-A definition, lemma, field, constructor or local name that an .antt file of
-crates/ declares is respelled in every .antt and .rt file: a dash becomes an underscore, and a
+A definition, lemma, field, constructor, local name or alias of an import that a
+file of crates/ declares is respelled in every .antt and .rt file: a dash becomes an underscore, and a
 name that begins with a capital letter is joined in camel case; a prime becomes
 an apostrophe. Names that the check makes (goals, invariants, measures and the
 steps of a proof) keep their spelling, and so do strings and comments of code.
@@ -21,6 +21,7 @@ PART = r'[^\s(){};,.\[\]"⌜⌝◌:]+'
 DECLARED = re.compile(
     r'^\s*(?:(?:abbrev|unfoldable|pub|data|record|infixl?r?)\s+)*(' + PART + r')\s[^:=]*?:\s*(.*)$')
 SEVERAL = re.compile(r'^\s+(?:pub\s+)?((?:' + PART + r'\s+)+' + PART + r')\s+:\s')
+ALIAS = re.compile(r' as (' + PART + r')')
 BOUND = re.compile(r'\blet\s+(' + PART + r')\s*[:=]')
 
 
@@ -51,6 +52,12 @@ def declared(path):
         yield from BOUND.findall(line)
 
 
+def aliases(path):
+    for line in path.read_text(encoding='utf8').splitlines():
+        if re.match(r'(ghost |pub )?use ', line):
+            yield from ALIAS.findall(line)
+
+
 def main():
     names = {}
     goals = set()
@@ -61,6 +68,10 @@ def main():
                 goals.add(m.group(1))
     for path in texts():
         for name in declared(path):
+            if new_name(name) != name:
+                names[name] = new_name(name)
+    for path in list(texts()) + sorted(CRATES.glob('*/src/**/*.rt')):
+        for name in aliases(path):
             if new_name(name) != name:
                 names[name] = new_name(name)
     clash = False
@@ -109,7 +120,7 @@ def main():
                 parts = re.split(r'("(?:[^"\\]|\\.)*"|//.*)', line)
                 parts[::2] = [respell(p) for p in parts[::2]]
                 lines.append(''.join(parts))
-            elif line.lstrip().startswith('--') or re.match(r'use .*\.(Goals|Given)\.\{', line):
+            elif line.lstrip().startswith('--') or re.match(r'use .*\.proofs\..*\.(Goals|Given)\.\{', line):
                 lines.append(line)
             else:
                 lines.append(respell(line))

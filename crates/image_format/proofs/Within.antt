@@ -5,7 +5,7 @@ use Rattle.std.proofs.ByRecursion.{All-append, All-weaker}
 use Rattle.tree.specs.declared.handle.NodeHandle.{NodeHandle}
 use Rattle.tree.specs.declared.handle.EntryHandle.{EntryHandle}
 use Rattle.tree.specs.Document.{Ident, Value, null, string, integer, float, bool, Entry, Node, node, Block, block, no_block, Nodes, nil, cons, handle_in, head_in, listed, depth, depth_node, depth_block}
-use Rattle.tree.specs.Going.{Spot, EntrySpot, spots, spots_in, spots_of, all_spots, all_entries, entries_from, entries_of as all-entries-of}
+use Rattle.tree.specs.Going.{Spot, EntrySpot, spots, spots_in, spots_of, all_spots, all_entries, entries_from, entries_of as all_entries_of}
 use Rattle.tree.specs.Limits as limits
 use Rattle.tree.specs.Limits.{Lawful, node_numbers, entry_numbers}
 use Rattle.tree.specs.Numbers.{TextFits, SpanFits}
@@ -146,9 +146,9 @@ module _ (bs : List ℕ) (b : Bytes bs) (short : length bs ≤ 1048576) where
             span = f.span;
           }
 
-  entries_fit : (ss : List Spot) → AllByRecursion (Stands bs) ss → AllByRecursion (λ (s : EntrySpot). limits.EntryFits s.self) (all-entries-of ss)
+  entries_fit : (ss : List Spot) → AllByRecursion (Stands bs) ss → AllByRecursion (λ (s : EntrySpot). limits.EntryFits s.self) (all_entries_of ss)
   entries_fit [] h = tt
-  entries_fit (s ∷ ss) h = All-append (λ (s : EntrySpot). limits.EntryFits s.self) (entries_from (handle_in s.self) (head_in s.self).entries) (all-entries-of ss) (from (handle_in s.self) (head_in s.self).entries h.0.entries) (entries_fit ss h.1)
+  entries_fit (s ∷ ss) h = All-append (λ (s : EntrySpot). limits.EntryFits s.self) (entries_from (handle_in s.self) (head_in s.self).entries) (all_entries_of ss) (from (handle_in s.self) (head_in s.self).entries h.0.entries) (entries_fit ss h.1)
     where
       from : (n : NodeHandle) (es : List Entry) → AllByRecursion (EntryStands bs) es → AllByRecursion (λ (s : EntrySpot). limits.EntryFits s.self) (entries_from n es)
       from n [] k = tt

@@ -4,7 +4,7 @@ use Rattle.std.specs.List.{AllByRecursion}
 use Rattle.std.proofs.lemmas.Bool.{le-leb}
 use Rattle.tree.specs.declared.handle.NodeHandle.{NodeHandle}
 use Rattle.tree.specs.Document.{Ident, Value, null, string, integer, float, bool, Entry, Nodes, handle_in, head_in, block_in, is_block}
-use Rattle.tree.specs.Going.{Spot, spots_in, all_spots, entries_of, entries_from as entry-spots}
+use Rattle.tree.specs.Going.{Spot, spots_in, all_spots, entries_of, entries_from as entry_spots}
 use Rattle.tree.proofs.Standing.{At, left, right, cuts, ends}
 use Rattle.layout.specs.Rows.{Tables, in_text, perhaps, perhaps_in_text, value, value_known, entry, entries_from, picked}
 use Rattle.layout.specs.Layout.{rows_say, nodes_say, NodeParts, EntryParts, Laid}
@@ -144,7 +144,7 @@ node_rows_length : (at k : ℕ) (ss : List Spot) → length (node_rows at k ss) 
 node_rows_length at k [] = refl
 node_rows_length at k (s ∷ ss) = ap suc (node_rows_length (at + length (node_text (head_in s.self))) (k + length (head_in s.self).entries) ss)
 
-spots_length : (h : NodeHandle) (es : List Entry) → length (entry-spots h es) ≡ length es
+spots_length : (h : NodeHandle) (es : List Entry) → length (entry_spots h es) ≡ length es
 spots_length h [] = refl
 spots_length h (e ∷ es) = ap suc (spots_length h es)
 
@@ -153,7 +153,7 @@ own_length [] = refl
 own_length (s ∷ ss) =
     let h = handle_in s.self in
     let es = (head_in s.self).entries in
-    length-append (entry-spots h es) (entries_of ss) ∙ (λ i. spots_length h es i + own_length ss i) ∙ sym (length-append es (own_entries ss))
+    length-append (entry_spots h es) (entries_of ss) ∙ (λ i. spots_length h es i + own_length ss i) ∙ sym (length-append es (own_entries ss))
 
 pub lays_out : (doc : Nodes) → Fits doc → Laid (laid_out doc) doc
 lays_out doc f =

@@ -3,7 +3,7 @@ ghost use Rattle.std.specs.Prelude.{◌≡◌, true, IfOk, vec_items};
 ghost use Rattle.index.specs.Links.{links_of, entry_links_of};
 ghost use Rattle.layout.specs.Layout.{Made};
 ghost use Rattle.layout.specs.Tables.{document};
-ghost use Rattle.layout.specs.Typed.{typed as types-kept};
+ghost use Rattle.layout.specs.Typed.{typed as types_kept};
 ghost use Rattle.table_check.specs.Given.{given};
 
 use super::linking::{link_entries, link_nodes};
@@ -17,7 +17,7 @@ use table_check::source::Source;
 
 // The numbers in tables are those of their types.
 fn note_source(source: Source<'_>)
-    ensures { types-kept (given source.entry) ≡ true }
+    ensures { types_kept (given source.entry) ≡ true }
 {
     note_text(source.text);
     note_nodes(source.nodes);
@@ -44,7 +44,7 @@ fn link_all(
 
 // The links of the document that the tables make, and what is known of that document. Only memory can be wanting.
 pub fn link(heap: Global, source: Source<'_>) -> Result<Links, AllocError>
-    ensures typed { types-kept (given source.entry) ≡ true }
+    ensures typed { types_kept (given source.entry) ≡ true }
     ensures law { Made (given source.entry) (document (given source.entry)) }
     ensures nodes { IfOk result (λ l. ∥ vec_items l.nodes.items ≡ links_of (document (given source.entry)) ∥₁) }
     ensures entries { IfOk result (λ l. ∥ vec_items l.entries.items ≡ entry_links_of (document (given source.entry)) ∥₁) }

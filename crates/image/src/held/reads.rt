@@ -2,7 +2,7 @@
 ghost use Rattle.std.specs.Prelude.{◌≡◌, Some, None, MatchOption};
 ghost use Rattle.std.specs.Option.{option_map};
 ghost use Rattle.tree.specs.Going.{first_node, found, found_entry};
-ghost use Rattle.index.specs.Links.{link as node-link, entry_link};
+ghost use Rattle.index.specs.Links.{link as node_link, entry_link};
 ghost use Rattle.records.proofs.Numbers.{bytes_from_are};
 ghost use Rattle.image_format.proofs.Answering.{NodeTold, EntryTold, lawful_image};
 ghost use Rattle.image_format.proofs.Payload.{node_types, entry_types};
@@ -27,7 +27,7 @@ impl Image<'_> {
 
     // What leads on from a node.
     fn link(&self, n: NodeHandle) -> Option<NodeLink>
-        ensures { result ≡ option_map node-link (found (meant self.now) n) }
+        ensures { result ≡ option_map node_link (found (meant self.now) n) }
     {
         self.links.nodes.get(n.number)
     }

@@ -3,11 +3,11 @@ ghost use Rattle.std.specs.Prelude.{◌≡◌, ℕ, ◌+◌, ◌≤◌, true, le
 ghost use Rattle.std.specs.Option.{option_map};
 ghost use Rattle.tree.specs.Going.{first_node, found, found_entry};
 ghost use Rattle.tree.specs.Lent.{ident_of, value_of};
-ghost use Rattle.index.specs.Links.{link as node-link, entry_link};
+ghost use Rattle.index.specs.Links.{link as node_link, entry_link};
 ghost use Rattle.layout.specs.Rows.{piece, in_text, ident, perhaps, perhaps_in_text, value, value_known};
 ghost use Rattle.layout.proofs.Filling.{node_number};
 ghost use Rattle.layout.proofs.Answering.{NodeTold, EntryTold};
-ghost use Rattle.layout.proofs.Within.{lawful as lawful-tables};
+ghost use Rattle.layout.proofs.Within.{lawful as lawful_tables};
 ghost use Rattle.table_check.specs.Given.{given};
 ghost use Rattle.tables.specs.Held.{meant};
 
@@ -70,7 +70,7 @@ impl Tables<'_> {
 
     // What leads on from a node.
     fn link(&self, n: NodeHandle) -> Option<NodeLink>
-        ensures { result ≡ option_map node-link (found (meant self.now) n) }
+        ensures { result ≡ option_map node_link (found (meant self.now) n) }
     {
         self.links.nodes.get(n.number)
     }
@@ -108,7 +108,7 @@ impl Tables<'_> {
 impl Tree for Tables<'_> {
     ghost meaning = { meant };
 
-    ghost lawful = { λ t. lawful-tables (given t.source) t.typed };
+    ghost lawful = { λ t. lawful_tables (given t.source) t.typed };
 
     fn first_node(&self) -> Option<NodeHandle> {
         match self.first() {

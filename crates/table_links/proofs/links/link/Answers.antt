@@ -3,18 +3,18 @@ use Rattle.std.proofs.lemmas.Result.{err_from_is_err_and}
 use Rattle.layout.specs.Tables.{document}
 use Rattle.layout.proofs.Making.{nodes_rise, entries_rise}
 use Rattle.layout.proofs.Reading.{made}
-use Rattle.table_check.specs.Given.{given as tables-in}
+use Rattle.table_check.specs.Given.{given as tables_in}
 use Rattle.table_links.proofs.links.link.Goals as goal
 
 pub returns-in_err-nodes : goal.returns-in_err-nodes
 returns-in_err-nodes c =
-    let t = tables-in c.args.source in
+    let t = tables_in c.args.source in
     let p = err_from_is_err_and c.from_residual.result c.from_residual.ensures.1 in
     record { typed = c.note_source.ensures; law = made t (document t) refl; nodes = rw p.1 tt; entries = rw p.1 tt }
 
 pub unreachable-requires : goal.unreachable-requires
 unreachable-requires c =
-    let t = tables-in c.args.source in
+    let t = tables_in c.args.source in
     let typed = c.note_source.ensures in
     c.in-None.ensures.none
     (nodes_rise t typed (vec_items c.in_ok-nodes.nodes) c.in_ok-nodes.ensures.nodes)
@@ -22,7 +22,7 @@ unreachable-requires c =
 
 pub returns : goal.returns
 returns c =
-    let t = tables-in c.args.source in
+    let t = tables_in c.args.source in
     record {
       typed = c.note_source.ensures;
       law = made t (document t) refl;

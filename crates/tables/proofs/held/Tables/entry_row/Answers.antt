@@ -2,7 +2,7 @@ use Rattle.tree.specs.Going.{found_entry}
 use Rattle.index.specs.Links.{entry_link as link_at}
 use Rattle.index.proofs.Found.{met, unmet}
 use Rattle.layout.proofs.Answering.{entry_told}
-use Rattle.table_check.specs.Given.{given as tables-in}
+use Rattle.table_check.specs.Given.{given as tables_in}
 use Rattle.tables.specs.Held.{meant}
 use Rattle.tables.proofs.held.Tables.entry_row.Goals as goal
 
@@ -12,9 +12,9 @@ returns-in-None c = unmet link_at (found_entry (meant c.args.self.now) c.args.e)
 pub returns-in-Some : goal.returns-in-Some
 returns-in-Some c =
     let m = met link_at (found_entry (meant c.args.self.now) c.args.e) _ c.in-Some.ensures in
-    (entry_told (tables-in c.args.self.now.source) c.args.e m.value m.is).1
+    (entry_told (tables_in c.args.self.now.source) c.args.e m.value m.is).1
 
 pub bounds-self-e : goal.bounds-self-e
 bounds-self-e c =
     let m = met link_at (found_entry (meant c.args.self.now) c.args.e) _ c.in-Some.ensures in
-    (entry_told (tables-in c.args.self.now.source) c.args.e m.value m.is).0
+    (entry_told (tables_in c.args.self.now.source) c.args.e m.value m.is).0
