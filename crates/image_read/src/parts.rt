@@ -160,6 +160,7 @@ pub fn has_entry(p: Cursor<'_>) -> bool
 }
 
 // The node of nesting `nesting` at `p`, up to its entries.
+#[tactic(auto, using(crate::proofs::Found::too_deep))]
 pub fn fore_at(p: Cursor<'_>, nesting: u32) -> Result<Fore<'_>, RecordFault>
     requires { Fits p }
     ensures is { over aside_of result ≡ over aside (fore nesting (place_of p.entry)) }
