@@ -1,4 +1,4 @@
-use Rattle.std.proofs.Common.{◌≡◌, ℕ, Bool, List, Decides, sym, subst}
+use Rattle.std.proofs.Common.{◌≡◌, ℕ, Bool, List, Decides, sym, subst, rules}
 use Rattle.std.specs.Str.{bytes_eq}
 use Rattle.forms.specs.Keys.{spelled}
 use Rattle.forms.specs.Lent.{key_of}
@@ -20,4 +20,4 @@ pub returns-in-AtProperty : goal.returns-in-AtProperty
 returns-in-AtProperty c = told c.is_property.result c.args.name.now c.args.part.now c.args.key AtProperty c.in-AtProperty.is c.is_property.ensures
 
 pub returns-in-AtPropertyType : goal.returns-in-AtPropertyType
-returns-in-AtPropertyType c = told c.is_property_type.result c.args.name.now c.args.part.now c.args.key AtPropertyType c.in-AtPropertyType.is c.is_property_type.ensures
+returns-in-AtPropertyType c = told _ c.args.name.now c.args.part.now c.args.key AtPropertyType c.in-AtPropertyType.is (search rules)
