@@ -1,5 +1,6 @@
 #![tactic(auto)]
 
+pub mod answer;
 pub mod head;
 pub mod hex;
 pub mod names;

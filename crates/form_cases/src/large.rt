@@ -1,10 +1,11 @@
 // A listed set of about 1 MiB.
 use common::head::put_head;
+use form_format::kind::FormKind;
 use std::alloc::{AllocError, Global};
 
 // A name of so many letters.
 fn put_name(bytes: &mut Vec<u8>, letters: u8) -> Result<(), AllocError> {
-    put_head(bytes, 6 + u32::from(letters), 33)?;
+    put_head(bytes, 6 + u32::from(letters), FormKind::Name as u16)?;
     for _ in 0..letters {
         bytes.push(b'a')?;
     }
@@ -13,7 +14,7 @@ fn put_name(bytes: &mut Vec<u8>, letters: u8) -> Result<(), AllocError> {
 
 // A form of 62 names of 255 letters, and a last one of so many letters.
 fn put_form(bytes: &mut Vec<u8>, last: u8) -> Result<(), AllocError> {
-    put_head(bytes, 16_194 + u32::from(last), 32)?;
+    put_head(bytes, 16_194 + u32::from(last), FormKind::Form as u16)?;
     for _ in 0..62 {
         put_name(bytes, 255)?;
     }

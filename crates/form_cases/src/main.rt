@@ -4,9 +4,11 @@
 
 mod large;
 
+use common::answer::answer_text;
 use common::head::put_head;
 use common::hex::bytes_of;
 use common::names::show_forms;
+use form_format::kind::FormKind;
 use form_read::check::check;
 use forms::interface::Forms;
 use large::forms_of_16_kib;
@@ -16,18 +18,8 @@ use std::io::{BufRead, BufReader};
 
 // Prints the answer of the check.
 fn answer(rt: &HostRuntime, bytes: &[u8]) -> io::Result<()> {
-    match check(bytes) {
-        Ok(counts) => {
-            let forms = counts.forms;
-            let names = counts.names;
-            println!(rt; "ok {forms} {names}")
-        }
-        Err(fault) => {
-            let place = fault.place;
-            let cause = fault.cause;
-            println!(rt; "refused {place} {cause}")
-        }
-    }
+    let counts = check(bytes).map(|counts| (counts.forms, counts.names));
+    rt.println(answer_text(rt.alloc(), counts)?)
 }
 
 fn show_count<F: Forms>(rt: &HostRuntime, forms: &F) -> io::Result<()> {
@@ -74,7 +66,7 @@ fn answer_largest(rt: &HostRuntime) -> io::Result<()> {
     zeros.push(0)?;
     answer_large(rt, "zeros and a byte", &zeros)?;
     let mut name = Vec::new(heap);
-    put_head(&mut name, 1_048_576, 33)?;
+    put_head(&mut name, 1_048_576, FormKind::Name as u16)?;
     name.resize(1_048_576, 0)?;
     answer_large(rt, "a name outside of a form", &name)?;
     name.push(0)?;

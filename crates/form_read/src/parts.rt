@@ -15,10 +15,7 @@ use records::take::head;
 fn is_too_long(bytes: &[u8]) -> bool
     ensures { result ≡ is_long (mark bytes.now) }
 {
-    match head(bytes) {
-        Some(mark) => mark.kind == FormKind::Name as u16 && mark.size > 261,
-        None => false,
-    }
+    head(bytes).is_some_and(|mark| mark.kind == FormKind::Name as u16 && mark.size > 261)
 }
 
 // The record of the name at `p`, before which fewer than 256 names of its form stand.

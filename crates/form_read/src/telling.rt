@@ -7,16 +7,12 @@ ghost use Rattle.form_read.specs.Told.{ToldNames, ToldForms, ToldSet};
 use super::parts::{form_at, full_at, name_at};
 use super::sink::FormSink;
 use records::cursor::Cursor;
-use records::fault::{Cause, RecordFault};
 use records::stop::Stop;
 
 // The most forms of a set, and the most names of a form.
 const MOST_FORMS: u32 = 64;
 
 const MOST_NAMES: u32 = 256;
-
-// The most bytes of a set.
-const MOST_BYTES: usize = 1_048_576;
 
 // Tells of the names from `start` on.
 fn tell_names<'a, S: FormSink<'a>>(start: Cursor<'a>, sink: &mut S) -> Result<(), Stop<S::Error>>
@@ -52,15 +48,9 @@ fn tell_forms<'a, S: FormSink<'a>>(start: Cursor<'a>, sink: &mut S) -> Result<()
 }
 
 // Tells of all forms and names of the set.
-#[tactic(auto, using(crate::proofs::Stops::set_told))]
 pub fn tell_set<'a, S: FormSink<'a>>(bytes: &'a [u8], sink: &mut S) -> Result<(), Stop<S::Error>>
     ensures { S.FormSink.told sink.old [] [] → ToldSet (S.FormSink.told sink.new) bytes.now result }
 {
-    if bytes.len() > MOST_BYTES {
-        return Err(Stop::Fault(RecordFault {
-            place: 0,
-            cause: Cause::Size,
-        }));
-    }
-    tell_forms(Cursor { at: 0, bytes }, sink)
+    let start = Cursor::whole(bytes)?;
+    tell_forms(start, sink)
 }

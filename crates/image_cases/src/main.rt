@@ -1,6 +1,7 @@
 // The check of images: reads an image in hexadecimal digits from each line, and prints the answer.
 #![tactic(auto)]
 
+use common::answer::answer_text;
 use common::hex::bytes_of;
 use image_read::check::check;
 use std::io;
@@ -8,18 +9,8 @@ use std::io::{BufRead, BufReader};
 
 // Prints the answer of the check.
 fn answer(rt: &HostRuntime, bytes: &[u8]) -> io::Result<()> {
-    match check(bytes) {
-        Ok(counts) => {
-            let nodes = counts.nodes;
-            let entries = counts.entries;
-            println!(rt; "ok {nodes} {entries}")
-        }
-        Err(fault) => {
-            let place = fault.place;
-            let cause = fault.cause;
-            println!(rt; "refused {place} {cause}")
-        }
-    }
+    let counts = check(bytes).map(|counts| (counts.nodes, counts.entries));
+    rt.println(answer_text(rt.alloc(), counts)?)
 }
 
 fn main(rt: HostRuntime) -> io::Result<()> {

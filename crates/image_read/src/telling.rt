@@ -14,7 +14,6 @@ use image_format::kind::Kind;
 use index::keyed::Keyed;
 use index::link::{EntryLink, NodeLink};
 use records::cursor::Cursor;
-use records::fault::{Cause, RecordFault};
 use records::stop::Stop;
 use tree::handle::{EntryHandle, NodeHandle};
 
@@ -123,13 +122,8 @@ fn tell_nodes<S: Sink>(
 pub fn tell_image<S: Sink>(bytes: &[u8], sink: &mut S) -> Result<(), Stop<S::Error>>
     ensures { (x : Both) → S.told sink.old x.0 x.1 → ToldImage (S.told sink.new) x bytes.now result }
 {
-    if bytes.len() > 1_048_576 {
-        return Err(Stop::Fault(RecordFault {
-            place: 0,
-            cause: Cause::Size,
-        }));
-    }
-    let record = record_of(Cursor { at: 0, bytes }, Kind::Document)?;
+    let whole = Cursor::whole(bytes)?;
+    let record = record_of(whole, Kind::Document)?;
     tell_nodes(record.body, 1, None, sink)?;
     Ok(end_at(record.after)?)
 }

@@ -1,5 +1,6 @@
 // Images of 1 MiB.
 use common::head::put_head;
+use image_format::kind::Kind;
 use std::alloc::{AllocError, Global};
 
 const SPAN: [u8; 8] = [0; 8];
@@ -16,13 +17,13 @@ const ARGUMENT: [u8; 36] = [
 ];
 
 // A record of a head and a span: the length of the record, its kind, and a span of zeros.
-fn put_front(bytes: &mut Vec<u8>, length: u32, kind: u16) -> Result<(), AllocError> {
-    put_head(bytes, length, kind)?;
+fn put_front(bytes: &mut Vec<u8>, length: u32, kind: Kind) -> Result<(), AllocError> {
+    put_head(bytes, length, kind.into())?;
     bytes.extend_from_slice(&SPAN)
 }
 
 fn put_name(bytes: &mut Vec<u8>, length: u32, letters: u32) -> Result<(), AllocError> {
-    put_front(bytes, length, 3)?;
+    put_front(bytes, length, Kind::Name)?;
     for _ in 0..letters {
         bytes.push(b'a')?;
     }
@@ -32,8 +33,8 @@ fn put_name(bytes: &mut Vec<u8>, length: u32, letters: u32) -> Result<(), AllocE
 // 1,048,576 bytes of the smallest nodes; the first has a name of 26 letters.
 pub fn smallest_nodes(heap: Global) -> Result<Vec<u8>, AllocError> {
     let mut bytes = Vec::new(heap);
-    put_head(&mut bytes, 1_048_576, 1)?;
-    put_front(&mut bytes, 54, 2)?;
+    put_head(&mut bytes, 1_048_576, Kind::Document.into())?;
+    put_front(&mut bytes, 54, Kind::Node)?;
     put_name(&mut bytes, 40, 26)?;
     for _ in 0..37_447 {
         bytes.extend_from_slice(&SMALLEST)?;
@@ -44,12 +45,12 @@ pub fn smallest_nodes(heap: Global) -> Result<Vec<u8>, AllocError> {
 // 1,048,576 bytes of the nodes `a 1`, 65 bytes each; the first has a name of 56 letters.
 pub fn nodes_with_an_argument(heap: Global) -> Result<Vec<u8>, AllocError> {
     let mut bytes = Vec::new(heap);
-    put_head(&mut bytes, 1_048_576, 1)?;
-    put_front(&mut bytes, 120, 2)?;
+    put_head(&mut bytes, 1_048_576, Kind::Document.into())?;
+    put_front(&mut bytes, 120, Kind::Node)?;
     put_name(&mut bytes, 70, 56)?;
     bytes.extend_from_slice(&ARGUMENT)?;
     for _ in 0..16_130 {
-        put_front(&mut bytes, 65, 2)?;
+        put_front(&mut bytes, 65, Kind::Node)?;
         put_name(&mut bytes, 15, 1)?;
         bytes.extend_from_slice(&ARGUMENT)?;
     }
@@ -60,21 +61,21 @@ pub fn nodes_with_an_argument(heap: Global) -> Result<Vec<u8>, AllocError> {
 pub fn nested_heads(heap: Global) -> Result<Vec<u8>, AllocError> {
     let mut bytes = Vec::new(heap);
     let mut left: u32 = 1_048_566;
-    put_head(&mut bytes, left, 1)?;
+    put_head(&mut bytes, left, Kind::Document.into())?;
     for _ in 0..30_840 {
         left = left.saturating_sub(6);
-        put_front(&mut bytes, left, 2)?;
+        put_front(&mut bytes, left, Kind::Node)?;
         put_name(&mut bytes, 14, 0)?;
         left = left.saturating_sub(28);
-        put_head(&mut bytes, left, 1)?;
+        put_head(&mut bytes, left, Kind::Document.into())?;
     }
     Ok(bytes)
 }
 
 // A head of this length and kind, and so many bytes of zero.
-pub fn zeros(heap: Global, length: u32, kind: u16, count: u32) -> Result<Vec<u8>, AllocError> {
+pub fn zeros(heap: Global, length: u32, kind: Kind, count: u32) -> Result<Vec<u8>, AllocError> {
     let mut bytes = Vec::new(heap);
-    put_head(&mut bytes, length, kind)?;
+    put_head(&mut bytes, length, kind.into())?;
     for _ in 0..count {
         bytes.push(0)?;
     }

@@ -4,6 +4,8 @@
 mod large;
 mod measure;
 
+use common::answer::answer_text;
+use image_format::kind::Kind;
 use image_read::check::check;
 use large::{nested_heads, nodes_with_an_argument, smallest_nodes, zeros};
 use measure::measure;
@@ -11,18 +13,9 @@ use std::{env, io};
 
 fn answer(rt: &HostRuntime, what: &str, bytes: &[u8]) -> io::Result<()> {
     let length = bytes.len();
-    match check(bytes) {
-        Ok(counts) => {
-            let nodes = counts.nodes;
-            let entries = counts.entries;
-            println!(rt; "{what}, {length} bytes: ok {nodes} {entries}")
-        }
-        Err(fault) => {
-            let place = fault.place;
-            let cause = fault.cause;
-            println!(rt; "{what}, {length} bytes: refused {place} {cause}")
-        }
-    }
+    let counts = check(bytes).map(|counts| (counts.nodes, counts.entries));
+    let answer = answer_text(rt.alloc(), counts)?;
+    println!(rt; "{what}, {length} bytes: {answer}")
 }
 
 fn main(rt: HostRuntime) -> io::Result<()> {
@@ -43,12 +36,12 @@ fn main(rt: HostRuntime) -> io::Result<()> {
     nodes.push(0)?;
     answer(&rt, "nodes with an argument and a byte", &nodes)?;
     answer(&rt, "nested heads", &nested_heads(heap)?)?;
-    answer(&rt, "length 0", &zeros(heap, 0, 1, 1_048_570)?)?;
-    answer(&rt, "length 0 and a byte", &zeros(heap, 0, 1, 1_048_571)?)?;
-    answer(&rt, "a node", &zeros(heap, 1_048_576, 2, 1_048_570)?)?;
+    answer(&rt, "length 0", &zeros(heap, 0, Kind::Document, 1_048_570)?)?;
+    answer(&rt, "length 0 and a byte", &zeros(heap, 0, Kind::Document, 1_048_571)?)?;
+    answer(&rt, "a node", &zeros(heap, 1_048_576, Kind::Node, 1_048_570)?)?;
     answer(
         &rt,
         "a node and a byte",
-        &zeros(heap, 1_048_576, 2, 1_048_571)?,
+        &zeros(heap, 1_048_576, Kind::Node, 1_048_571)?,
     )
 }

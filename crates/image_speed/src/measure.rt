@@ -7,13 +7,10 @@ use std::time::Instant;
 // Prints the least, the middle and the greatest of the times of a job, in nanoseconds.
 fn show(rt: &HostRuntime, job: &str, times: &mut Vec<u128>) -> io::Result<()> {
     times.sort_unstable();
-    let n = times.len();
-    if n == 0 {
+    let (Some(least), Some(most)) = (times.first(), times.last()) else {
         return Ok(());
-    }
-    let least = times[0];
-    let middle = times[n / 2];
-    let most = times[n - 1];
+    };
+    let middle = times[times.len() / 2];
     println!(rt; "  {job}: {least} {middle} {most}")
 }
 

@@ -1,7 +1,8 @@
 // Records, read where a cursor stands.
-ghost use Rattle.std.specs.Prelude.{◌≡◌, ◌+◌, ◌≤◌, length, IfOk, ◌==◌};
+ghost use Rattle.std.specs.Prelude.{◌≡◌, ◌+◌, ◌<◌, ◌≤◌, length, IfOk, MatchResult, ◌==◌};
 ghost use Rattle.tree.specs.Outcome.{over};
-ghost use Rattle.records.specs.Places.{next, part, part_of};
+ghost use Rattle.records.specs.Places.{next, part, part_of, start};
+ghost use Rattle.records.specs.declared.fault.Cause.TheVariants.{Size};
 ghost use Rattle.records.specs.Lent.{part_from};
 ghost use Rattle.records.specs.Read.{place_of, part_read};
 
@@ -10,7 +11,23 @@ use super::cut::Cut;
 use super::fault::{Cause, RecordFault};
 use super::take::{kind_of, record_of, take_record};
 
+// The most bytes that an input may have.
+const MOST_BYTES: usize = 1_048_576;
+
 impl<'a> Cursor<'a> {
+    // The whole input, from its first byte on.
+    pub fn whole(bytes: &'a [u8]) -> Result<Cursor<'a>, RecordFault>
+        ensures { MatchResult result (λ p. (length bytes.now ≤ 1048576) × (place_of p ≡ start bytes.now)) (λ e. (1048576 < length bytes.now) × (e ≡ record { place = 0; cause = Size })) }
+    {
+        if bytes.len() > MOST_BYTES {
+            return Err(RecordFault {
+                place: 0,
+                cause: Cause::Size,
+            });
+        }
+        Ok(Cursor { at: 0, bytes })
+    }
+
     // The fault of this place.
     pub fn fault(self, cause: Cause) -> RecordFault
         ensures { result ≡ record { place = self.entry.at; cause = cause } }

@@ -27,10 +27,7 @@ pub fn head(bytes: &[u8]) -> Option<Mark<'_>>
 pub fn kind_of(bytes: &[u8]) -> u16
     ensures { result ≡ next_kind bytes.now }
 {
-    match head(bytes) {
-        Some(mark) => mark.kind,
-        None => 0,
-    }
+    head(bytes).map_or(0, |mark| mark.kind)
 }
 
 // The record that begins the bytes, whatever its kind.
