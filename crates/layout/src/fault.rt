@@ -1,3 +1,6 @@
+// Where tables are unsound, and why.
+use std::fmt;
+
 // The tables in the order in which they are judged.
 #[derive(Clone, Copy, PartialEq, Eq, Debug)]
 pub enum Table {
@@ -24,6 +27,40 @@ pub struct TableFault {
     pub table: Table,
     pub row: u32,
     pub cause: Cause,
+}
+
+impl fmt::Display for Table {
+    ghost use Rattle.std.specs.Prelude.{Some};
+    ghost use Rattle.layout.specs.Words.{table_text};
+
+    ghost output = { λ t. Some (table_text t) };
+
+    fn fmt<W: fmt::Write>(&self, f: &mut fmt::Formatter<W>) -> fmt::Result {
+        f.write_str(match self {
+            Table::Nodes => "nodes",
+            Table::Entries => "entries",
+            Table::Text => "text",
+        })
+    }
+}
+
+impl fmt::Display for Cause {
+    ghost use Rattle.std.specs.Prelude.{Some};
+    ghost use Rattle.layout.specs.Words.{cause_text};
+
+    ghost output = { λ c. Some (cause_text c) };
+
+    fn fmt<W: fmt::Write>(&self, f: &mut fmt::Formatter<W>) -> fmt::Result {
+        f.write_str(match self {
+            Cause::Limit => "limit",
+            Cause::Name => "name",
+            Cause::Type => "type",
+            Cause::Value => "value",
+            Cause::Entries => "entries",
+            Cause::Size => "size",
+            Cause::Nesting => "nesting",
+        })
+    }
 }
 
 impl TableFault {
