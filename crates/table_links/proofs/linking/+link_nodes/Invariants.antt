@@ -12,8 +12,8 @@ decreases-link_nodes l = l.to - l.from
 abbrev pub invariant-loop-i : goal.invariant-loop-i
 invariant-loop-i l =
     (l.from ≤ l.i)
-    × Whole (tables_in l.source) l.i l.to
-    × ((ys : List (Keyed NodeLink)) → Fills (tables_in l.source) l.i l.to l.parent (vec_items l.out) ys → Fills (tables_in l.source) l.from l.to l.parent (vec_items l.initial.out) ys)
+    × Whole (tables_in l.tables.source) l.i l.to
+    × ((ys : List (Keyed NodeLink)) → Fills (tables_in l.tables.source) l.i l.to l.parent (vec_items l.out) ys → Fills (tables_in l.tables.source) l.from l.to l.parent (vec_items l.initial.out) ys)
 
 abbrev pub decreases-loop-i : goal.decreases-loop-i
 decreases-loop-i l = l.to - l.i
