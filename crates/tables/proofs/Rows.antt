@@ -1,19 +1,16 @@
 -- A row that is read at the number of a node or an entry. Assumes nothing.
-use Rattle.std.proofs.Common.{◌≡◌, ℕ, ◌<◌, length, get_or, List, Some, None, Option, Bor, OnSome, IsSomeAnd, sym, refl, subst, arith}
+use Rattle.std.proofs.Common.{◌≡◌, ℕ, ◌<◌, length, get_or, List, Some, None, Option, Bor, OnSome, IsSomeAnd, sym, subst, arith}
 use Rattle.std.specs.Option.{option_copied}
 use Rattle.std.specs.Slice.{IsItemAt}
 use Rattle.tree.specs.declared.handle.NodeHandle.{NodeHandle}
 use Rattle.tree.specs.declared.handle.EntryHandle.{EntryHandle}
 use Rattle.tree.specs.Going.{found, found_entry}
+use Rattle.linked.proofs.Cases.{on_some}
 use Rattle.layout.specs.Rows.{Tables}
 use Rattle.layout.specs.Tables.{blank, blank_entry, document}
 use Rattle.layout.specs.declared.rows.NodeRow.{NodeRow}
 use Rattle.layout.specs.declared.rows.EntryRow.{EntryRow}
 use Rattle.layout.proofs.Answering.{NodeTold, node_told, EntryTold, entry_told}
-
-on_some : {X : Type 0} (o : Option X) (P : Type 0) → ((x : X) → o ≡ Some x → P) → OnSome o P
-on_some None P f = tt
-on_some (Some x) P f = f x refl
 
 -- an element that is there is had
 had : {X : Type 0} (P : X → Type 0) (xs : List X) (i : ℕ) (d : X) (got : Option (Bor X)) → IsItemAt xs i got → i < length xs → P (get_or xs i d) → IsSomeAnd (option_copied got) P

@@ -5,10 +5,10 @@ ghost use Rattle.std.specs.Option.{option_map};
 ghost use Rattle.tree.specs.Going.{found, found_entry};
 ghost use Rattle.tree.specs.Lent.{ident_of, value_of};
 ghost use Rattle.layout.specs.Rows.{piece, in_text, ident, value, value_known};
-ghost use Rattle.layout.specs.Tables.{document};
 ghost use Rattle.layout.proofs.Answering.{NodeTold, EntryTold};
 ghost use Rattle.layout.proofs.Within.{lawful as lawful_tables};
 ghost use Rattle.table_check.specs.Given.{given};
+ghost use Rattle.tables.specs.Held.{document_of};
 
 use crate::held::Rows;
 use layout::rows::{EntryRow, IdentRow, NodeRow, Part, ValueRow};
@@ -50,21 +50,21 @@ fn value(text: &[u8], row: ValueRow) -> Option<Value<'_>>
 impl Rows<'_> {
     // The row of a node.
     fn node(&self, n: NodeHandle) -> Option<NodeRow>
-        ensures { let o = found (document (given self.now.source)) n in OnSome o (IsSomeAnd result (NodeTold (given self.now.source) o)) }
+        ensures { let o = found (document_of self.now) n in OnSome o (IsSomeAnd result (NodeTold (given self.now.source) o)) }
     {
         self.source.nodes.get(n.number as usize).copied()
     }
 
     // The row of an entry.
     fn entry(&self, e: EntryHandle) -> Option<EntryRow>
-        ensures { let o = found_entry (document (given self.now.source)) e in OnSome o (IsSomeAnd result (EntryTold (given self.now.source) o e.number)) }
+        ensures { let o = found_entry (document_of self.now) e in OnSome o (IsSomeAnd result (EntryTold (given self.now.source) o e.number)) }
     {
         self.source.entries.get(e.number as usize).copied()
     }
 }
 
 impl Parts for Rows<'_> {
-    ghost document = { λ p. document (given p.source) };
+    ghost document = { document_of };
 
     ghost lawful = { λ p. lawful_tables (given p.source) p.typed };
 
