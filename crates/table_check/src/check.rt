@@ -6,6 +6,7 @@ ghost use Rattle.layout.specs.Layout.{Exact, Unique};
 ghost use Rattle.layout.proofs.Steps.{Judges};
 ghost use Rattle.table_check.specs.Given.{given};
 
+use super::siblings::Siblings;
 use super::source::Source;
 use layout::fault::{Cause, Table, TableFault};
 use layout::rows::{EntryRow, IdentRow, Part, ValueRow};
@@ -115,12 +116,9 @@ fn judge_nodes(source: Source<'_>, nesting: usize, from: usize, to: usize) -> Re
     requires shallow { nesting ≤ 33 }
     ensures { Judges (given source.entry) nesting from to result }
 {
-    let mut i = from;
-    while i < to {
+    for (i, end) in Siblings::new(source.nodes, from, to) {
         judge(Table::Nodes, i, node_cause(source, nesting, i, to))?;
-        let end = i + 1 + source.nodes[i].below as usize;
         judge_nodes(source, nesting + 1, i + 1, end)?;
-        i = end;
     }
     Ok(())
 }

@@ -11,6 +11,7 @@ use super::sound::Sound;
 use index::keyed::Keyed;
 use index::link::{EntryLink, NodeLink};
 use std::alloc::AllocError;
+use table_check::siblings::Siblings;
 use tree::handle::{EntryHandle, NodeHandle};
 
 // What leads on from node row `i`, in a block whose rows end before `to`.
@@ -50,10 +51,8 @@ pub fn link_nodes(
     requires within { to ≤ length tables.source.nodes.now }
     ensures { OnOk result (Fills (given tables.entry.source) from to parent out.old.items out.new.items) }
 {
-    let mut i = from;
-    while i < to {
+    for (i, end) in Siblings::new(tables.source.nodes, from, to) {
         out.push(link_of(tables, i, to, parent))?;
-        let end = i + 1 + tables.source.nodes[i].below as usize;
         link_nodes(
             tables,
             i + 1,
@@ -61,7 +60,6 @@ pub fn link_nodes(
             Some(NodeHandle { number: i as u32 }),
             out,
         )?;
-        i = end;
     }
     Ok(())
 }
