@@ -1,5 +1,4 @@
 // Sets of forms: the fixed one, one that is opened from bytes, and copies of it that are refused.
-use common::cause::cause_name;
 use common::names::show_forms;
 use form_read::check::check;
 use forms::fixed::FixedForms;
@@ -11,9 +10,7 @@ use std::io;
 // Prints why bytes are refused.
 fn show_refusal(rt: &HostRuntime, what: &str, fault: RecordFault) -> io::Result<()> {
     let number = RecordFault::NUMBER;
-    let place = fault.place;
-    let cause = cause_name(fault.cause);
-    println!(rt; "{what}: refused {number}, place {place}, cause {cause}")
+    println!(rt; "{what}: refused {number}, {fault}")
 }
 
 pub fn show_fixed(rt: &HostRuntime) -> io::Result<()> {

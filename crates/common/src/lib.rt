@@ -1,6 +1,5 @@
 #![tactic(auto)]
 
-pub mod cause;
 pub mod head;
 pub mod hex;
 pub mod names;

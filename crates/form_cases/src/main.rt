@@ -4,7 +4,6 @@
 
 mod large;
 
-use common::cause::cause_name;
 use common::head::put_head;
 use common::hex::bytes_of;
 use common::names::show_forms;
@@ -25,7 +24,7 @@ fn answer(rt: &HostRuntime, bytes: &[u8]) -> io::Result<()> {
         }
         Err(fault) => {
             let place = fault.place;
-            let cause = cause_name(fault.cause);
+            let cause = fault.cause;
             println!(rt; "refused {place} {cause}")
         }
     }

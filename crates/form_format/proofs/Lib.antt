@@ -3,5 +3,4 @@ pub mod Sound
 pub mod Whole
 pub mod Going
 pub mod Steps
-pub mod Rows
 pub mod Told

@@ -1,9 +1,10 @@
 -- One name and one form, as the code reads them. Assumes nothing.
-use Rattle.std.proofs.Common.{◌≡◌, ℕ, ◌+◌, ◌<◌, ◌||◌, leb, List, length, Ok, Err, sym, refl, ap, subst, arith}
-use Rattle.std.proofs.lemmas.Bool.{leb-false, or_parts}
+use Rattle.std.proofs.Common.{◌≡◌, ℕ, ◌+◌, ◌<◌, ◌≤◌, ◌||◌, leb, cond, List, length, Ok, Err, sym, refl, ap, subst, arith}
+use Rattle.std.proofs.lemmas.Bool.{leb-false, le-leb, lt-leb, or_parts, cond-true, cond-false}
 use Rattle.tree.specs.Outcome.{and_then}
 use Rattle.records.specs.Records.{mark}
-use Rattle.records.specs.Places.{Place, Part}
+use Rattle.records.specs.Places.{Place, Part, fault, part_of}
+use Rattle.records.specs.declared.fault.Cause.TheVariants.{Size}
 use Rattle.records.specs.declared.fault.RecordFault.{RecordFault}
 use Rattle.records.proofs.Results.{ok_ok, then_ok, then_is, passes}
 use Rattle.records.proofs.Parts.{part_of_size}
@@ -49,6 +50,25 @@ module _ (n : ℕ) (p : Place) where
   pub names_refused : (r : Part) (e : RecordFault) → Ok r ≡ form_part n p → Err e ≡ filled name (length r.body.bytes) 0 r.body → form n p ≡ Err e
   unfolding form
   names_refused r e h k = then_is _ _ _ _ (sym h) (ap (λ m. and_then m (λ f. Ok (f, r.after))) (sym k))
+
+-- fewer than 256 names stand before a name
+pub name_below : (n : ℕ) (p : Place) → n < 256 → cond (is_long (mark p.bytes)) (fault p Size) (part_of 33 p) ≡ name_part n p
+unfolding name_part
+name_below n p l = ap (λ b. cond (b || is_long (mark p.bytes)) (fault p Size) (part_of 33 p)) (sym (lt-leb 256 n l))
+
+-- fewer than 64 forms stand before a form
+pub form_below : (n : ℕ) (p : Place) → n < 64 → part_of 32 p ≡ form_part n p
+unfolding form_part
+form_below n p l = sym (cond-false _ _ _ (lt-leb 64 n l))
+
+-- no name stands behind 256 names, and no form behind 64 forms
+pub names_full : (n : ℕ) (p : Place) → 256 ≤ n → fault p Size ≡ name_part n p
+unfolding name_part
+names_full n p l = ap (λ b. cond (b || is_long (mark p.bytes)) (fault p Size) (part_of 33 p)) (sym (le-leb 256 n l))
+
+pub forms_full : (n : ℕ) (p : Place) → 64 ≤ n → fault p Size ≡ form_part n p
+unfolding form_part
+forms_full n p l = sym (cond-true _ _ _ (le-leb 64 n l))
 
 pub name_shrinks : Shrinks name
 unfolding name

@@ -1,5 +1,5 @@
 -- What the check and the making answer, from what a sink was told. Assumes nothing.
-use Rattle.std.proofs.Common.{◌≡◌, ℕ, ◌+◌, ◌*◌, ◌≤◌, min, List, [], ◌∷◌, ◌++◌, length, Ok, Err, Result, sym, refl, ap, ◌∙◌, append-nil, arith}
+use Rattle.std.proofs.Common.{◌≡◌, ℕ, ◌+◌, ◌*◌, ◌≤◌, min, List, [], ◌∷◌, ◌++◌, length, Ok, Err, Result, sym, refl, ap, ◌∙◌, arith}
 use Rattle.std.specs.List.{AllByRecursion}
 use Rattle.tree.specs.Outcome.{over}
 use Rattle.records.specs.Numbers.{Bytes}
@@ -9,9 +9,7 @@ use Rattle.records.proofs.Results.{err_ok, ok_ok}
 use Rattle.forms.specs.Forms.{Form}
 use Rattle.form_format.specs.Reading.{set_in, held, forms_in}
 use Rattle.form_format.specs.Law.{FormFits, names_count, counts_of, Accepts}
-use Rattle.form_format.specs.Rows.{joined, rows_from}
 use Rattle.form_format.specs.declared.counts.FormCounts.{FormCounts}
-use Rattle.form_format.specs.declared.row.FormRow.{FormRow}
 use Rattle.form_format.proofs.Whole.{accepted, complete}
 
 pub accepts : (bs : List ℕ) (r : Result FormCounts RecordFault) → Bytes bs → r ≡ over counts_of (set_in bs) → Accepts bs r
@@ -41,11 +39,14 @@ told_counts bs b fs n m h forms names =
 pub told_fault : (bs : List ℕ) (c : RecordFault) → Err c ≡ set_in bs → Err c ≡ over counts_of (set_in bs)
 told_fault bs c h = ap (over counts_of) h
 
--- what a keeper was told is the index of the forms that are made of the bytes
-pub told_index : (bs : List ℕ) (fs : List Form) (names : Form) (rows : List FormRow) → Ok fs ≡ set_in bs → names ≡ joined fs ++ [] → rows ≡ rows_from 0 fs → (names ≡ joined (forms_in bs)) × (rows ≡ rows_from 0 (forms_in bs))
-told_index bs fs names rows h n r =
-    let same : fs ≡ forms_in bs = ap held h in
-    (n ∙ append-nil (joined fs) ∙ ap joined same, r ∙ ap (rows_from 0) same)
+-- what a keeper was told is the list of forms that are made of the bytes
+pub told_forms : (bs : List ℕ) (fs gs : List Form) → Ok fs ≡ set_in bs → gs ≡ fs → gs ≡ forms_in bs
+told_forms bs fs gs h e = e ∙ ap held h
+
+-- one form more has its names more
+pub count_more : (fs : List Form) (f : Form) → names_count (fs ++ f ∷ []) ≡ names_count fs + length f
+count_more [] f = omega arith
+count_more (g ∷ fs) f = let h = count_more fs f in omega arith
 
 -- unsound bytes make no forms
 pub no_forms : (bs : List ℕ) (c : RecordFault) → Err c ≡ set_in bs → [] ≡ forms_in bs

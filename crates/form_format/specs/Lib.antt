@@ -1,4 +1,4 @@
 pub mod Writing
 pub mod Reading
 pub mod Law
-pub mod Rows
+pub mod Lent

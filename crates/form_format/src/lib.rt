@@ -1,4 +1,4 @@
 #![tactic(auto)]
 
 pub mod counts;
-pub mod row;
+pub mod kind;

@@ -1,31 +1,34 @@
 -- How telling of a listed set stops. Assumes nothing.
-use Rattle.std.proofs.Common.{◌≡◌, ℕ, ◌≤◌, false, eqb, List, [], length, Ok, Err, sym, ◌∙◌, subst}
-use Rattle.std.proofs.lemmas.Bool.{le-ltb, cond-false}
+use Rattle.std.proofs.Common.{◌≡◌, ℕ, ◌≤◌, false, eqb, List, [], length, Ok, Err, OnOk, Result, is_ok, sym, ap, ◌∙◌, subst}
+use Rattle.std.proofs.lemmas.Bool.{le-ltb, cond-false, false≢true}
 use Rattle.records.specs.Places.{Place, Part, start}
 use Rattle.records.specs.declared.fault.RecordFault.{RecordFault}
 use Rattle.records.specs.declared.stop.Stop.{Stop}
-use Rattle.records.specs.declared.stop.Stop.TheVariants.{Fault, Heap}
+use Rattle.records.specs.declared.stop.Stop.TheVariants.{Fault, Sink}
 use Rattle.forms.specs.Forms.{Form}
-use Rattle.form_format.specs.Reading.{form_part, form, set_in}
-use Rattle.form_format.proofs.Going.{Going, going_start, going_fault}
-use Rattle.form_format.proofs.Steps.{form_shrinks, names_refused}
-use Rattle.form_read.specs.Told.{ToldNames, ToldSet}
+use Rattle.form_format.specs.Reading.{filled, form_part, form, set_in}
+use Rattle.form_format.proofs.Going.{Going, going_fault}
+use Rattle.form_format.proofs.Steps.{names_refused}
+use Rattle.form_read.specs.Told.{ToldNames, ToldForms, ToldSet}
 
--- a set that is not too long is read from its start on
-pub set_start : (bs : List ℕ) → length bs ≤ 1048576 → Going form (set_in bs) [] 0 (start bs)
-set_start bs short g l = going_start form form_shrinks (start bs) g l ∙ sym (cond-false _ _ _ (le-ltb 1048576 (length bs) short))
-
-module _ (told : List Form → Form → Type 0) (wants : Type 0) where
+module _ (told : List Form → Form → Type 0) {E : Type 0} where
   -- the names of the form at p, behind the forms fs, were not told to their end
-  pub set_stopped : (e : Stop) (bs : List ℕ) (fs : List Form) (n : ℕ) (p : Place) (r : Part) → Going form (set_in bs) fs n p → false ≡ eqb (length p.bytes) 0 → Ok r ≡ form_part n p
-      → ToldNames told wants fs [] r.body (Err e) → ToldSet told wants bs (Err e)
-  set_stopped (Fault c) bs fs n p r going isnt h k = going_fault form (set_in bs) fs n p going c isnt (names_refused n p r c h k)
-  set_stopped Heap bs fs n p r going isnt h k = k
+  pub set_stopped : (e : Stop E) (from : Place) (fs : List Form) (n : ℕ) (p : Place) (r : Part) → Going form (filled form (length from.bytes) 0 from) fs n p → false ≡ eqb (length p.bytes) 0 → Ok r ≡ form_part n p
+      → ToldNames told fs [] r.body (Err e) → ToldForms told from (Err e)
+  set_stopped (Fault c) from fs n p r going isnt h k = going_fault form _ fs n p going c isnt (names_refused n p r c h k)
+  set_stopped (Sink k0) from fs n p r going isnt h k = k
+
+  -- a set that is not too long is its forms
+  pub set_told : (bs : List ℕ) (r : Result (Unit {0}) (Stop E)) → length bs ≤ 1048576 → ToldForms told (start bs) r → ToldSet told bs r
+  set_told bs (Ok t) short k = (k.0, k.1 ∙ sym (cond-false _ _ _ (le-ltb 1048576 (length bs) short)), k.2)
+  set_told bs (Err (Fault c)) short k = k ∙ sym (cond-false _ _ _ (le-ltb 1048576 (length bs) short))
+  set_told bs (Err (Sink e)) short k = k
 
   -- the set's fault, where telling stopped at one
-  pub at_fault : (bs : List ℕ) (s : Stop) (c : RecordFault) → s ≡ Fault c → ToldSet told wants bs (Err s) → Err c ≡ set_in bs
-  at_fault bs s c is t = subst (λ z. ToldSet told wants bs (Err z)) is t
+  pub at_fault : (bs : List ℕ) (s : Stop E) (c : RecordFault) → s ≡ Fault c → ToldSet told bs (Err s) → Err c ≡ set_in bs
+  at_fault bs s c is t = subst (λ z. ToldSet told bs (Err z)) is t
 
-  -- the sink's want of memory, where telling stopped for it
-  pub at_heap : (bs : List ℕ) (s : Stop) → s ≡ Heap → ToldSet told wants bs (Err s) → wants
-  at_heap bs s is t = subst (λ z. ToldSet told wants bs (Err z)) is t
+-- the outcome of the call behind one that has given Ok
+pub told_ok : {X E F P : Type 0} (r : Result X E) (q : Result X F) (x : X) → q ≡ Ok x → is_ok q ≡ is_ok r → OnOk r P → P
+told_ok (Ok y) q x is same t = t
+told_ok (Err e) q x is same t = absurd (false≢true (sym same ∙ ap is_ok is))

@@ -4,7 +4,6 @@ ghost use Rattle.tree.specs.Outcome.{over};
 ghost use Rattle.form_format.specs.Reading.{set_in};
 ghost use Rattle.form_format.specs.Law.{counts_of, Accepts, Unique};
 
-use super::sink::Counter;
 use super::telling::tell_set;
 use form_format::counts::FormCounts;
 use records::fault::RecordFault;
@@ -16,15 +15,9 @@ pub fn check(bytes: &[u8]) -> Result<FormCounts, RecordFault>
     ensures exact { Accepts bytes.now result }
     ensures unique { Unique bytes.now }
 {
-    let mut counter = Counter { forms: 0, names: 0 };
-    match tell_set(bytes, &mut counter) {
-        Ok(()) => Ok(FormCounts {
-            forms: counter.forms,
-            names: counter.names,
-        }),
-        Err(stop) => match stop {
-            Stop::Fault(fault) => Err(fault),
-            Stop::Heap => unreachable(),
-        },
+    let mut counts = FormCounts { forms: 0, names: 0 };
+    match tell_set(bytes, &mut counts) {
+        Ok(()) => Ok(counts),
+        Err(Stop::Fault(fault)) => Err(fault),
     }
 }

@@ -1,54 +1,52 @@
 // The records of a listed set, one by one.
-ghost use Rattle.std.specs.Prelude.{◌≡◌};
+ghost use Rattle.std.specs.Prelude.{◌≡◌, ℕ, ◌+◌, ◌<◌, ◌≤◌, true, false, length, IfOk, MatchResult, ◌==◌};
 ghost use Rattle.tree.specs.Outcome.{over};
 ghost use Rattle.records.specs.Records.{mark};
-ghost use Rattle.records.specs.Lent.{place_at, part_from};
+ghost use Rattle.records.specs.declared.fault.Cause.TheVariants.{Size};
+ghost use Rattle.records.specs.Read.{place_of, part_read};
 ghost use Rattle.form_format.specs.Reading.{is_long, name_part, form_part};
 
-use records::cut::Cut;
+use form_format::kind::FormKind;
+use records::cursor::{Cursor, Record};
 use records::fault::{Cause, RecordFault};
-use records::take::{head, record_of};
+use records::take::head;
 
 // Whether the bytes begin with the head of a name of more than 255 bytes.
-fn too_long(bytes: &[u8]) -> bool
+fn is_too_long(bytes: &[u8]) -> bool
     ensures { result ≡ is_long (mark bytes.now) }
 {
     match head(bytes) {
-        Some(mark) => mark.kind == 33 && mark.size > 261,
+        Some(mark) => mark.kind == FormKind::Name as u16 && mark.size > 261,
         None => false,
     }
 }
 
-// The record of the name at `place`, before which `before` names of its form stand.
-#[tactic(auto, unfolding(form_format::specs::Reading::name_part))]
-pub fn name_at(place: u32, bytes: &[u8], before: u32) -> Result<Cut<'_>, RecordFault>
-    ensures { over (part_from place bytes.now) result ≡ name_part before (place_at place bytes.now) }
+// The record of the name at `p`, before which fewer than 256 names of its form stand.
+pub fn name_at(p: Cursor<'_>) -> Result<Record<'_>, RecordFault>
+    ensures is { (n : ℕ) → n < 256 → over part_read result ≡ name_part n (place_of p.entry) }
+    ensures sizes { IfOk result (λ r. length r.body.bytes.now + length r.after.bytes.now + 6 ≤ length p.entry.bytes.now) }
 {
-    if before >= 256 {
-        return Err(RecordFault {
-            place,
-            cause: Cause::Size,
-        });
+    if is_too_long(p.bytes) {
+        return Err(p.fault(Cause::Size));
     }
-    if too_long(bytes) {
-        return Err(RecordFault {
-            place,
-            cause: Cause::Size,
-        });
-    }
-    record_of(place, bytes, 33)
+    p.record_of(FormKind::Name as u16)
 }
 
-// The record of the form at `place`, before which `before` forms stand.
-#[tactic(auto, unfolding(form_format::specs::Reading::form_part))]
-pub fn form_at(place: u32, bytes: &[u8], before: u32) -> Result<Cut<'_>, RecordFault>
-    ensures { over (part_from place bytes.now) result ≡ form_part before (place_at place bytes.now) }
+// The record of the form at `p`, before which fewer than 64 forms stand.
+pub fn form_at(p: Cursor<'_>) -> Result<Record<'_>, RecordFault>
+    ensures is { (n : ℕ) → n < 64 → over part_read result ≡ form_part n (place_of p.entry) }
+    ensures sizes { IfOk result (λ r. length r.body.bytes.now + length r.after.bytes.now + 6 ≤ length p.entry.bytes.now) }
 {
-    if before >= 64 {
-        return Err(RecordFault {
-            place,
-            cause: Cause::Size,
-        });
+    p.record_of(FormKind::Form as u16)
+}
+
+// Nothing more may stand at `p`.
+pub fn full_at(p: Cursor<'_>) -> Result<(), RecordFault>
+    ensures { MatchResult result (λ _. true ≡ (length p.entry.bytes.now == 0)) (λ e. (e ≡ record { place = p.entry.at; cause = Size }) × (false ≡ (length p.entry.bytes.now == 0))) }
+{
+    if p.is_at_end() {
+        Ok(())
+    } else {
+        Err(p.fault(Cause::Size))
     }
-    record_of(place, bytes, 32)
 }

@@ -1,81 +1,66 @@
 // What is told of each name and form of a listed set.
-ghost use Rattle.std.specs.Prelude.{◌≡◌, ◌+◌, min, List, [], ◌∷◌, ◌++◌, map, length, MatchBool};
+ghost use Rattle.std.specs.Prelude.{◌≡◌, ◌+◌, min, List, [], ◌∷◌, ◌++◌, length, OnOk};
 ghost use Rattle.forms.specs.Forms.{Form};
 ghost use Rattle.form_format.specs.Law.{names_count};
-ghost use Rattle.form_format.specs.Rows.{joined, rows_from};
+ghost use Rattle.form_format.specs.Lent.{form_lent, forms_lent};
 
-use form_format::row::FormRow;
+use form_format::counts::FormCounts;
+use std::alloc::AllocError;
+use std::convert::Infallible;
+use std::mem;
 
 pub trait FormSink<'a> {
+    // Why it takes no more.
+    type Error;
+
     // It was told of exactly these forms, and then of these names.
     ghost told: { Self → List Form → Form → Type 0 };
 
-    // Whether it can be in want of memory.
-    ghost wants: { Type 0 };
+    fn name(&mut self, name: &'a [u8]) -> Result<(), Self::Error>
+        ensures { (fs : List Form) (ms : Form) → told self.old fs ms → OnOk result (told self.new fs (ms ++ name.now ∷ [])) };
 
-    // True where the name was taken.
-    fn name(&mut self, name: &'a [u8]) -> bool
-        ensures { (fs : List Form) (ms : Form) → told self.old fs ms → MatchBool result (told self.new fs (ms ++ name.now ∷ [])) wants };
-
-    // The names since the last form are one form. True where it was taken.
-    fn form(&mut self) -> bool
-        ensures { (fs : List Form) (ms : Form) → told self.old fs ms → MatchBool result (told self.new (fs ++ ms ∷ []) []) wants };
+    // The names since the last form are one form.
+    fn form(&mut self) -> Result<(), Self::Error>
+        ensures { (fs : List Form) (ms : Form) → told self.old fs ms → OnOk result (told self.new (fs ++ ms ∷ []) []) };
 }
 
 // Counts what it is told.
-#[derive(Clone, Copy)]
-pub struct Counter {
-    pub forms: u32,
-    pub names: u32,
-}
+impl<'a> FormSink<'a> for FormCounts {
+    type Error = Infallible;
 
-impl<'a> FormSink<'a> for Counter {
     ghost told = { λ c fs ms. (c.forms ≡ min (length fs) 4294967295) × (c.names ≡ min (names_count fs + length ms) 4294967295) };
 
-    ghost wants = { ⊥ };
-
-    fn name(&mut self, _name: &'a [u8]) -> bool {
+    fn name(&mut self, _name: &'a [u8]) -> Result<(), Infallible> {
         self.names = self.names.saturating_add(1);
-        true
+        Ok(())
     }
 
-    fn form(&mut self) -> bool {
+    fn form(&mut self) -> Result<(), Infallible> {
         self.forms = self.forms.saturating_add(1);
-        true
+        Ok(())
     }
 }
 
-// Keeps what it is told: all names in order, and a row for each form. `start` is how many names the forms so far have.
+// Keeps what it is told: the forms, and the names since the last one.
 #[derive(Drop)]
 pub struct Keeper<'a> {
+    pub forms: Vec<Vec<&'a [u8]>>,
     pub names: Vec<&'a [u8]>,
-    pub forms: Vec<FormRow>,
-    pub start: usize,
 }
 
 impl<'a> FormSink<'a> for Keeper<'a> {
-    ghost told = { λ k fs ms. (map (λ x. x.now) k.names.items ≡ joined fs ++ ms) × (k.forms.items ≡ rows_from 0 fs) × (k.start ≡ length (joined fs)) };
+    type Error = AllocError;
 
-    ghost wants = { Unit {0} };
+    ghost told = { λ k fs ms. (forms_lent k.forms ≡ fs) × (form_lent k.names ≡ ms) };
 
-    fn name(&mut self, name: &'a [u8]) -> bool {
-        match self.names.push(name) {
-            Ok(()) => true,
-            Err(_) => false,
-        }
+    fn name(&mut self, name: &'a [u8]) -> Result<(), AllocError> {
+        self.names.push(name)?;
+        Ok(())
     }
 
-    fn form(&mut self) -> bool {
-        let start = self.start;
-        let end = self.names.len();
-        let row = FormRow {
-            start,
-            count: end.saturating_sub(start),
-        };
-        self.start = end;
-        match self.forms.push(row) {
-            Ok(()) => true,
-            Err(_) => false,
-        }
+    fn form(&mut self) -> Result<(), AllocError> {
+        let empty = Vec::new(*self.names.allocator());
+        self.forms.push(mem::replace(&mut self.names, empty))?;
+        Ok(())
     }
 }

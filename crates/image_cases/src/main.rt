@@ -1,7 +1,6 @@
 // The check of images: reads an image in hexadecimal digits from each line, and prints the answer.
 #![tactic(auto)]
 
-use common::cause::cause_name;
 use common::hex::bytes_of;
 use image_read::check::check;
 use std::io;
@@ -17,7 +16,7 @@ fn answer(rt: &HostRuntime, bytes: &[u8]) -> io::Result<()> {
         }
         Err(fault) => {
             let place = fault.place;
-            let cause = cause_name(fault.cause);
+            let cause = fault.cause;
             println!(rt; "refused {place} {cause}")
         }
     }

@@ -6,6 +6,7 @@ ghost use Rattle.records.specs.Numbers.{number};
 ghost use Rattle.image_format.specs.Signed.{signed};
 ghost use Rattle.image_format.proofs.Payload.{body_in, rest_in, span_in, ident_in, perhaps_in, behind, integer_in, flag_in, value_at};
 
+use image_format::kind::Kind;
 use records::take::{kind_of, take_record};
 use tree::span::{Identifier, Span};
 use tree::value::{Integer, Value};
@@ -41,16 +42,15 @@ pub fn behind_span(body: &[u8]) -> &[u8]
 pub fn span(body: &[u8]) -> Span
     ensures { result ≡ span_in body.now }
 {
-    if body.len() < 8 {
-        Span {
+    match body {
+        [a0, a1, a2, a3, b0, b1, b2, b3, ..] => Span {
+            start: u32::from_le_bytes([*a0, *a1, *a2, *a3]),
+            length: u32::from_le_bytes([*b0, *b1, *b2, *b3]),
+        },
+        _ => Span {
             start: 0,
             length: 0,
-        }
-    } else {
-        Span {
-            start: u32::from_le_bytes([body[0], body[1], body[2], body[3]]),
-            length: u32::from_le_bytes([body[4], body[5], body[6], body[7]]),
-        }
+        },
     }
 }
 
@@ -69,7 +69,7 @@ pub fn ident(bytes: &[u8]) -> Identifier<'_>
 pub fn perhaps(there: bool, bytes: &[u8]) -> Option<Identifier<'_>>
     ensures { option_map ident_of result ≡ perhaps_in there bytes.now }
 {
-    if there { Some(ident(bytes)) } else { None }
+    there.then(|| ident(bytes))
 }
 
 // What follows it.
@@ -79,38 +79,30 @@ pub fn past(there: bool, bytes: &[u8]) -> &[u8]
     if there { rest(bytes) } else { bytes }
 }
 
-// The eight bytes that begin the bytes, as a number.
+// The eight bytes that begin the bytes.
+fn eight(bytes: &[u8]) -> [u8; 8]
+    requires { 8 ≤ length bytes.now }
+    ensures { result ≡ take 8 bytes.now }
+{
+    *bytes.first_chunk::<8>().unwrap()
+}
+
+// They, as a number.
 fn word(bytes: &[u8]) -> u64
     requires { 8 ≤ length bytes.now }
     ensures { result ≡ number (take 8 bytes.now) }
 {
-    u64::from_le_bytes([
-        bytes[0], bytes[1], bytes[2], bytes[3], bytes[4], bytes[5], bytes[6], bytes[7],
-    ])
-}
-
-// The same, as a signed number.
-fn signed_word(bytes: &[u8]) -> i64
-    requires { 8 ≤ length bytes.now }
-    ensures { result ≡ signed (number (take 8 bytes.now)) }
-{
-    i64::from_le_bytes([
-        bytes[0], bytes[1], bytes[2], bytes[3], bytes[4], bytes[5], bytes[6], bytes[7],
-    ])
+    u64::from_le_bytes(eight(bytes))
 }
 
 // The integer in a body.
 fn integer(inner: &[u8]) -> Option<Integer>
     ensures { result ≡ integer_in inner.now }
 {
-    if inner.len() == 16 {
-        Some(Integer {
-            high: signed_word(&inner[8..]),
-            low: word(inner),
-        })
-    } else {
-        None
-    }
+    (inner.len() == 16).then(|| Integer {
+        high: i64::from_le_bytes(eight(&inner[8..])),
+        low: word(inner),
+    })
 }
 
 // The bool in a body.
@@ -129,18 +121,14 @@ pub fn value(bytes: &[u8]) -> Value<'_>
     ensures { value_of result ≡ value_at bytes.now }
 {
     let inner = body(bytes);
-    match kind_of(bytes) {
-        7 => Value::String(inner),
-        8 => match integer(inner) {
+    match Kind::try_from(kind_of(bytes)) {
+        Ok(Kind::String) => Value::String(inner),
+        Ok(Kind::Integer) => match integer(inner) {
             Some(n) => Value::Integer(n),
             None => Value::Null,
         },
-        9 => if inner.len() == 8 {
-            Value::Float(word(inner))
-        } else {
-            Value::Null
-        },
-        10 => match flag(inner) {
+        Ok(Kind::Float) if inner.len() == 8 => Value::Float(word(inner)),
+        Ok(Kind::Bool) => match flag(inner) {
             Some(b) => Value::Bool(b),
             None => Value::Null,
         },

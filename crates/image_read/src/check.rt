@@ -5,10 +5,9 @@ ghost use Rattle.tree.specs.Outcome.{over};
 ghost use Rattle.image_format.specs.Reading.{image};
 ghost use Rattle.image_format.specs.Law.{Accepts, Unique};
 
-use super::sink::Counter;
-use super::stop::Stop;
 use super::telling::tell_image;
 use records::fault::RecordFault;
+use records::stop::Stop;
 use tree::counts::Counts;
 
 // The counts of the document that the bytes are the writing of, or their first fault.
@@ -17,18 +16,12 @@ pub fn check(bytes: &[u8]) -> Result<Counts, RecordFault>
     ensures exact { Accepts bytes.now result }
     ensures unique { Unique bytes.now }
 {
-    let mut counter = Counter {
+    let mut counts = Counts {
         nodes: 0,
         entries: 0,
     };
-    match tell_image(bytes, &mut counter) {
-        Ok(()) => Ok(Counts {
-            nodes: counter.nodes,
-            entries: counter.entries,
-        }),
-        Err(stop) => match stop {
-            Stop::Fault(fault) => Err(fault),
-            Stop::Heap => unreachable(),
-        },
+    match tell_image(bytes, &mut counts) {
+        Ok(()) => Ok(counts),
+        Err(Stop::Fault(fault)) => Err(fault),
     }
 }

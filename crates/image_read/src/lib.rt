@@ -1,9 +1,8 @@
 #![tactic(auto)]
 
 pub mod check;
-mod cursor;
+mod fore;
 pub mod links;
 mod parts;
 mod sink;
-mod stop;
 mod telling;

@@ -6,9 +6,9 @@ ghost use Rattle.image_format.specs.Reading.{document_in};
 ghost use Rattle.image_format.specs.Law.{Made};
 
 use super::sink::Keeper;
-use super::stop::Stop;
 use super::telling::tell_image;
 use index::links::Links;
+use records::stop::Stop;
 use std::alloc::{AllocError, Global};
 
 // What is kept of the nodes and of the entries, nothing where the bytes are no image.
@@ -22,13 +22,11 @@ fn keep_all(heap: Global, bytes: &[u8]) -> Result<Keeper, AllocError>
     };
     match tell_image(bytes, &mut keeper) {
         Ok(()) => Ok(keeper),
-        Err(stop) => match stop {
-            Stop::Fault(_) => Ok(Keeper {
-                nodes: Vec::new(heap),
-                entries: Vec::new(heap),
-            }),
-            Stop::Heap => Err(AllocError),
-        },
+        Err(Stop::Fault(_)) => Ok(Keeper {
+            nodes: Vec::new(heap),
+            entries: Vec::new(heap),
+        }),
+        Err(Stop::Sink(error)) => Err(error),
     }
 }
 
@@ -40,8 +38,5 @@ pub fn link(heap: Global, bytes: &[u8]) -> Result<Links, AllocError>
     ensures entries { IfOk result (λ l. ∥ vec_items l.entries.items ≡ entry_links_of (document_in bytes.now) ∥₁) }
 {
     let keeper = keep_all(heap, bytes)?;
-    match Links::new(keeper.nodes, keeper.entries) {
-        Some(links) => Ok(links),
-        None => unreachable(),
-    }
+    Ok(Links::new(keeper.nodes, keeper.entries).unwrap())
 }

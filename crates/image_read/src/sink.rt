@@ -1,47 +1,43 @@
 // What is told of each node and entry of an image.
-ghost use Rattle.std.specs.Prelude.{◌≡◌, ℕ, min, List, [], ◌∷◌, ◌++◌, length, MatchBool};
+ghost use Rattle.std.specs.Prelude.{◌≡◌, ℕ, min, List, [], ◌∷◌, ◌++◌, length, OnOk};
 ghost use Rattle.index.specs.declared.keyed.Keyed.{Keyed as Under};
 ghost use Rattle.index.specs.declared.link.NodeLink.{NodeLink as NodeLeads};
 ghost use Rattle.index.specs.declared.link.EntryLink.{EntryLink as EntryLeads};
 
 use index::keyed::Keyed;
 use index::link::{EntryLink, NodeLink};
+use std::alloc::AllocError;
+use std::convert::Infallible;
+use tree::counts::Counts;
 
 pub trait Sink {
+    // Why it takes no more.
+    type Error;
+
     // It was told of exactly these.
     ghost told: { Self → List (Under NodeLeads) → List (Under EntryLeads) → Type 0 };
 
-    // Whether it can be in want of memory.
-    ghost wants: { Type 0 };
+    fn node(&mut self, link: Keyed<NodeLink>) -> Result<(), Self::Error>
+        ensures { (ns : List (Under NodeLeads)) (es : List (Under EntryLeads)) → told self.old ns es → OnOk result (told self.new (ns ++ link ∷ []) es) };
 
-    // True where the link was taken.
-    fn node(&mut self, link: Keyed<NodeLink>) -> bool
-        ensures { (ns : List (Under NodeLeads)) (es : List (Under EntryLeads)) → told self.old ns es → MatchBool result (told self.new (ns ++ link ∷ []) es) wants };
-
-    fn entry(&mut self, link: Keyed<EntryLink>) -> bool
-        ensures { (ns : List (Under NodeLeads)) (es : List (Under EntryLeads)) → told self.old ns es → MatchBool result (told self.new ns (es ++ link ∷ [])) wants };
+    fn entry(&mut self, link: Keyed<EntryLink>) -> Result<(), Self::Error>
+        ensures { (ns : List (Under NodeLeads)) (es : List (Under EntryLeads)) → told self.old ns es → OnOk result (told self.new ns (es ++ link ∷ [])) };
 }
 
 // Counts what it is told.
-#[derive(Clone, Copy)]
-pub struct Counter {
-    pub nodes: u32,
-    pub entries: u32,
-}
+impl Sink for Counts {
+    type Error = Infallible;
 
-impl Sink for Counter {
     ghost told = { λ c ns es. (c.nodes ≡ min (length ns) 4294967295) × (c.entries ≡ min (length es) 4294967295) };
 
-    ghost wants = { ⊥ };
-
-    fn node(&mut self, _link: Keyed<NodeLink>) -> bool {
+    fn node(&mut self, _link: Keyed<NodeLink>) -> Result<(), Infallible> {
         self.nodes = self.nodes.saturating_add(1);
-        true
+        Ok(())
     }
 
-    fn entry(&mut self, _link: Keyed<EntryLink>) -> bool {
+    fn entry(&mut self, _link: Keyed<EntryLink>) -> Result<(), Infallible> {
         self.entries = self.entries.saturating_add(1);
-        true
+        Ok(())
     }
 }
 
@@ -53,15 +49,17 @@ pub struct Keeper {
 }
 
 impl Sink for Keeper {
+    type Error = AllocError;
+
     ghost told = { λ k ns es. (k.nodes.items ≡ ns) × (k.entries.items ≡ es) };
 
-    ghost wants = { Unit {0} };
-
-    fn node(&mut self, link: Keyed<NodeLink>) -> bool {
-        self.nodes.push(link).is_ok()
+    fn node(&mut self, link: Keyed<NodeLink>) -> Result<(), AllocError> {
+        self.nodes.push(link)?;
+        Ok(())
     }
 
-    fn entry(&mut self, link: Keyed<EntryLink>) -> bool {
-        self.entries.push(link).is_ok()
+    fn entry(&mut self, link: Keyed<EntryLink>) -> Result<(), AllocError> {
+        self.entries.push(link)?;
+        Ok(())
     }
 }

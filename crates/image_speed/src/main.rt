@@ -4,7 +4,6 @@
 mod large;
 mod measure;
 
-use common::cause::cause_name;
 use image_read::check::check;
 use large::{nested_heads, nodes_with_an_argument, smallest_nodes, zeros};
 use measure::measure;
@@ -20,7 +19,7 @@ fn answer(rt: &HostRuntime, what: &str, bytes: &[u8]) -> io::Result<()> {
         }
         Err(fault) => {
             let place = fault.place;
-            let cause = cause_name(fault.cause);
+            let cause = fault.cause;
             println!(rt; "{what}, {length} bytes: refused {place} {cause}")
         }
     }

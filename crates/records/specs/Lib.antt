@@ -2,3 +2,5 @@ pub mod Numbers
 pub mod Records
 pub mod Places
 pub mod Lent
+pub mod Causes
+pub mod Read

@@ -4,17 +4,17 @@ ghost use Rattle.records.specs.declared.stop.Stop.TheVariants.{Fault};
 
 use super::fault::RecordFault;
 
-// A fault in them, or want of memory.
+// A fault in the bytes, or the error of what they were told to.
 #[derive(Drop)]
-pub enum Stop {
+pub enum Stop<E> {
     Fault(RecordFault),
-    Heap,
+    Sink(E),
 }
 
-impl From<RecordFault> for Stop {
+impl<E> From<RecordFault> for Stop<E> {
     ghost from_gives = { λ e r. r ≡ Fault e };
 
-    fn from(e: RecordFault) -> Stop {
+    fn from(e: RecordFault) -> Stop<E> {
         Stop::Fault(e)
     }
 }

@@ -1,5 +1,5 @@
 // Records, taken apart.
-ghost use Rattle.std.specs.Prelude.{◌≡◌};
+ghost use Rattle.std.specs.Prelude.{◌≡◌, ◌+◌, length, IfOk};
 ghost use Rattle.std.specs.Option.{option_map};
 ghost use Rattle.tree.specs.Outcome.{over};
 ghost use Rattle.records.specs.Records.{mark, cut, next_kind};
@@ -35,7 +35,8 @@ pub fn kind_of(bytes: &[u8]) -> u16
 
 // The record that begins the bytes, whatever its kind.
 pub fn take_record(bytes: &[u8]) -> Result<Cut<'_>, Cause>
-    ensures { over cut_of result ≡ cut bytes.now }
+    ensures is { over cut_of result ≡ cut bytes.now }
+    ensures size { IfOk result (λ c. length c.body.now + length c.rest.now + 6 ≡ length bytes.now) }
 {
     if bytes.is_empty() {
         return Err(Cause::Missing);
@@ -56,7 +57,8 @@ pub fn take_record(bytes: &[u8]) -> Result<Cut<'_>, Cause>
 
 // The record that begins the bytes, which stand at `place`; it is to have this kind.
 pub fn record_of(place: u32, bytes: &[u8], kind: u16) -> Result<Cut<'_>, RecordFault>
-    ensures { over (part_from place bytes.now) result ≡ part_of kind (place_at place bytes.now) }
+    ensures is { over (part_from place bytes.now) result ≡ part_of kind (place_at place bytes.now) }
+    ensures size { IfOk result (λ c. length c.body.now + length c.rest.now + 6 ≡ length bytes.now) }
 {
     match take_record(bytes) {
         Err(cause) => Err(RecordFault { place, cause }),

@@ -5,3 +5,4 @@ pub mod Limits
 pub mod Lent
 pub mod Outcome
 pub mod Counts
+pub mod Shown

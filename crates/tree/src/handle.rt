@@ -1,3 +1,9 @@
+// Handles, by which the nodes and entries of a tree are asked for.
+ghost use Rattle.std.specs.Prelude.{Some};
+ghost use Rattle.std.specs.Fmt.{decimal};
+
+use std::fmt;
+
 // A node of a tree, by number. A caller may make one from any number: a tree answers absent where the number is no node's.
 #[derive(Clone, Copy, PartialEq, Eq, Debug)]
 pub struct NodeHandle {
@@ -8,4 +14,20 @@ pub struct NodeHandle {
 #[derive(Clone, Copy, PartialEq, Eq, Debug)]
 pub struct EntryHandle {
     pub number: u32,
+}
+
+impl fmt::Display for NodeHandle {
+    ghost output = { λ n. Some (decimal n.number) };
+
+    fn fmt<W: fmt::Write>(&self, f: &mut fmt::Formatter<W>) -> fmt::Result {
+        write!(f, "{}", self.number)
+    }
+}
+
+impl fmt::Display for EntryHandle {
+    ghost output = { λ e. Some (decimal e.number) };
+
+    fn fmt<W: fmt::Write>(&self, f: &mut fmt::Formatter<W>) -> fmt::Result {
+        write!(f, "{}", self.number)
+    }
 }

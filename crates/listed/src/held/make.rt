@@ -4,17 +4,13 @@ ghost use Rattle.form_format.specs.Law.{Made};
 ghost use Rattle.listed.specs.Held.{meant};
 
 use crate::held::ListedForms;
-use form_read::index::{FormIndex, index};
+use form_read::index::index;
 use std::alloc::{AllocError, Global};
 
 // The forms that the bytes are the writing of, or none where they are unsound. Only memory can be wanting.
 pub fn make<'a>(heap: Global, bytes: &'a [u8]) -> Result<ListedForms<'a>, AllocError>
     ensures { IfOk result (λ t. Made bytes.now (meant t)) }
 {
-    let FormIndex { names, forms } = index(heap, bytes)?;
-    Ok(ListedForms {
-        bytes,
-        names,
-        forms,
-    })
+    let forms = index(heap, bytes)?;
+    Ok(ListedForms { bytes, forms })
 }

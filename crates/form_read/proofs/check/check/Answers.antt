@@ -4,11 +4,8 @@ use Rattle.records.proofs.Numbers.{bytes_from}
 use Rattle.form_format.specs.Law.{names_count}
 use Rattle.form_format.proofs.Told.{accepts, told_counts, told_fault}
 use Rattle.form_format.proofs.Whole.{unique}
-use Rattle.form_read.proofs.Stops.{at_fault, at_heap}
+use Rattle.form_read.proofs.Stops.{at_fault}
 use Rattle.form_read.proofs.check.check.Goals as goal
-
-pub unreachable-requires : goal.unreachable-requires
-unreachable-requires c = at_heap (λ fs ms. (c.tell_set.new.sink.forms ≡ min (length fs) 4294967295) × (c.tell_set.new.sink.names ≡ min (names_count fs + length ms) 4294967295)) ⊥ c.args.bytes.now _ c.in-Heap.is (c.in-Err.ensures (refl, refl))
 
 pub returns-in-Ok : goal.returns-in-Ok
 returns-in-Ok c =
@@ -18,10 +15,10 @@ returns-in-Ok c =
     let a = told_counts bs b t.0 _ _ t.1 t.2.0 t.2.1 in
     record { answer = a; exact = accepts bs _ b a; unique = unique bs }
 
-pub returns-in-Fault : goal.returns-in-Fault
-returns-in-Fault c =
+pub returns-in-Err-Fault : goal.returns-in-Err-Fault
+returns-in-Err-Fault c =
     let bs = c.args.bytes.now in
     let b : Bytes bs = bytes_from bs (λ k. omega (arith, c.type_inv.bytes k)) in
-    let t = at_fault (λ fs ms. (c.tell_set.new.sink.forms ≡ min (length fs) 4294967295) × (c.tell_set.new.sink.names ≡ min (names_count fs + length ms) 4294967295)) ⊥ bs _ _ c.in-Fault.is (c.in-Err.ensures (refl, refl)) in
-    let a = told_fault bs c.in-Fault.fault t in
-    record { answer = a; exact = accepts bs _ b a; unique = unique bs }
+    let t = at_fault (λ fs ms. (c.tell_set.new.sink.forms ≡ min (length fs) 4294967295) × (c.tell_set.new.sink.names ≡ min (names_count fs + length ms) 4294967295)) bs _ _ c.in-Err-Fault.field-0-is (c.in-Err-Fault.ensures (refl, refl)) in
+    let a = told_fault bs c.in-Err-Fault.fault t in
+    rw c.in-Err-Fault.fault-is (record { answer = a; exact = accepts bs _ b a; unique = unique bs })

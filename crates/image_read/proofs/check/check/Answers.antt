@@ -1,11 +1,8 @@
 use Rattle.std.proofs.Common.{◌≡◌, min, [], length, refl, arith}
 use Rattle.records.specs.Numbers.{Bytes}
 use Rattle.image_format.proofs.Made.{told_counts, told_fault, accepts, unique, bytes_from}
-use Rattle.image_read.proofs.Tells.{at_fault, at_heap}
+use Rattle.image_read.proofs.Tells.{at_fault}
 use Rattle.image_read.proofs.check.check.Goals as goal
-
-pub unreachable-requires : goal.unreachable-requires
-unreachable-requires c = at_heap (λ ns es. (c.tell_image.new.sink.nodes ≡ min (length ns) 4294967295) × (c.tell_image.new.sink.entries ≡ min (length es) 4294967295)) ⊥ ([], []) c.args.bytes.now _ c.in-Heap.is (c.in-Err.ensures ([], []) (refl, refl))
 
 pub returns-in-Ok : goal.returns-in-Ok
 returns-in-Ok c =
@@ -15,10 +12,10 @@ returns-in-Ok c =
     let a = told_counts bs b t.0 _ _ t.1 t.2.0 t.2.1 in
     record { answer = a; exact = accepts bs _ b a; unique = unique bs }
 
-pub returns-in-Fault : goal.returns-in-Fault
-returns-in-Fault c =
+pub returns-in-Err-Fault : goal.returns-in-Err-Fault
+returns-in-Err-Fault c =
     let bs = c.args.bytes.now in
     let b : Bytes bs = bytes_from bs (λ k. omega (arith, c.type_inv.bytes k)) in
-    let t = at_fault (λ ns es. (c.tell_image.new.sink.nodes ≡ min (length ns) 4294967295) × (c.tell_image.new.sink.entries ≡ min (length es) 4294967295)) ⊥ ([], []) bs _ _ c.in-Fault.is (c.in-Err.ensures ([], []) (refl, refl)) in
-    let a = told_fault bs c.in-Fault.fault t in
-    record { answer = a; exact = accepts bs _ b a; unique = unique bs }
+    let t = at_fault (λ ns es. (c.tell_image.new.sink.nodes ≡ min (length ns) 4294967295) × (c.tell_image.new.sink.entries ≡ min (length es) 4294967295)) ([], []) bs _ _ c.in-Err-Fault.field-0-is (c.in-Err-Fault.ensures ([], []) (refl, refl)) in
+    let a = told_fault bs c.in-Err-Fault.fault t in
+    rw c.in-Err-Fault.fault-is (record { answer = a; exact = accepts bs _ b a; unique = unique bs })

@@ -9,10 +9,10 @@ returns-in-Ok c =
     let l = told_links c.args.bytes.now t.0 t.1 in
     record { nodes = t.2.0 ∙ l.0; entries = t.2.1 ∙ l.1 }
 
-pub returns-in-Fault : goal.returns-in-Fault
-returns-in-Fault c =
+pub returns-in-Err-Fault : goal.returns-in-Err-Fault
+returns-in-Err-Fault c =
     let bs = c.args.bytes.now in
-    let told = c.in-Err.ensures ([], []) (c.new.ensures.items, c.new-2.ensures.items) in
-    let t = at_fault (λ ns es. (vec_items c.tell_image.new.sink.nodes ≡ ns) × (vec_items c.tell_image.new.sink.entries ≡ es)) (Unit {0}) ([], []) bs _ _ c.in-Fault.is told in
-    let l = no_links bs c.in-Fault.field-0 t in
-    record { nodes = c.new-in-Fault.ensures.items ∙ l.0; entries = c.new-in-Fault-2.ensures.items ∙ l.1 }
+    let told = c.in-Err-Fault.ensures ([], []) (c.new.ensures.items, c.new-2.ensures.items) in
+    let t = at_fault (λ ns es. (vec_items c.tell_image.new.sink.nodes ≡ ns) × (vec_items c.tell_image.new.sink.entries ≡ es)) ([], []) bs _ _ c.in-Err-Fault.field-0-is told in
+    let l = no_links bs _ t in
+    record { nodes = c.new-in-Err-Fault.ensures.items ∙ l.0; entries = c.new-in-Err-Fault-2.ensures.items ∙ l.1 }

@@ -1,8 +1,9 @@
-use Rattle.std.proofs.Common.{◌∙◌, arith}
+use Rattle.std.proofs.Common.{◌≡◌, IfSome, vec_items, ◌∙◌, subst, arith}
 use Rattle.std.proofs.lemmas.Result.{err_from_is_err_and}
 use Rattle.records.specs.Numbers.{Bytes}
 use Rattle.records.proofs.Numbers.{bytes_are}
 use Rattle.image_format.proofs.Made.{made, nodes_rise, entries_rise, bytes_from}
+use Rattle.image_read.proofs.Tells.{is_there}
 use Rattle.image_read.proofs.links.link.Goals as goal
 
 pub returns-in_err-keeper : goal.returns-in_err-keeper
@@ -12,12 +13,12 @@ returns-in_err-keeper c =
     let p = err_from_is_err_and c.from_residual.result c.from_residual.ensures.1 in
     record { typed = bytes_are bs b; law = made bs b; nodes = rw p.1 tt; entries = rw p.1 tt }
 
-pub unreachable-requires : goal.unreachable-requires
-unreachable-requires c =
+pub unwrap-requires : goal.unwrap-requires
+unwrap-requires c =
     let bs = c.args.bytes.now in
     let b : Bytes bs = bytes_from bs (λ k. omega (arith, c.type_inv.bytes k)) in
     let k = c.in_ok-keeper.ensures in
-    c.in-None.ensures.none (nodes_rise bs b _ k.nodes) (entries_rise bs b _ k.entries)
+    is_there c.new.result c.new.ensures.none (λ no. no (nodes_rise bs b _ k.nodes) (entries_rise bs b _ k.entries))
 
 pub returns : goal.returns
 returns c =
@@ -27,6 +28,6 @@ returns c =
     record {
       typed = bytes_are bs b;
       law = made bs b;
-      nodes = ∣ c.in-Some.ensures.nodes ∙ k.nodes ∣₁;
-      entries = ∣ c.in-Some.ensures.entries ∙ k.entries ∣₁;
+      nodes = ∣ subst (λ o. IfSome o (λ l. vec_items l.nodes.items ≡ vec_items c.in_ok-keeper.keeper.nodes)) c.unwrap.ensures c.new.ensures.nodes ∙ k.nodes ∣₁;
+      entries = ∣ subst (λ o. IfSome o (λ l. vec_items l.entries.items ≡ vec_items c.in_ok-keeper.keeper.entries)) c.unwrap.ensures c.new.ensures.entries ∙ k.entries ∣₁;
     }

@@ -1,25 +1,22 @@
-use Rattle.std.proofs.Common.{refl, arith}
+use Rattle.std.proofs.Common.{refl}
 use Rattle.std.proofs.lemmas.Result.{err_from_is_err_and}
 use Rattle.image_format.specs.Reading.{ident}
 use Rattle.image_format.proofs.Passing.{behind}
 use Rattle.image_format.proofs.Runs.{stops, stops_over, goes_on, goes_over}
 use Rattle.image_read.proofs.parts.pass_ident.Goals as goal
 
-pub returns-in_err-record : goal.returns-in_err-record
+pub returns-in_err-record-clause-is : goal.returns-in_err-record-clause-is
 unfolding ident
-returns-in_err-record c =
+returns-in_err-record-clause-is c =
     let p = err_from_is_err_and c.from_residual.result c.from_residual.ensures.1 in
-    rw (p.1, p.2) (record { is = stops _ _ _ _ c.in_err-record.ensures.is; later = tt })
+    rw (p.1, p.2) (stops _ _ _ _ c.in_err-record.ensures.is)
 
-pub returns-in_err-behind_span : goal.returns-in_err-behind_span
+pub returns-in_err-behind_span-clause-is : goal.returns-in_err-behind_span-clause-is
 unfolding ident
-returns-in_err-behind_span c =
+returns-in_err-behind_span-clause-is c =
     let p = err_from_is_err_and c.from_residual-in_err-behind_span.result c.from_residual-in_err-behind_span.ensures.1 in
-    rw (p.1, p.2) (record { is = goes_on _ _ _ _ _ c.in_ok-record.ensures.is (stops_over _ behind _ _ _ c.in_err-behind_span.ensures.is); later = tt })
+    rw (p.1, p.2) (goes_on _ _ _ _ _ c.in_ok-record.ensures.is (stops_over _ behind _ _ _ c.in_err-behind_span.ensures.is))
 
-pub returns : goal.returns
+pub returns-clause-is : goal.returns-clause-is
 unfolding ident
-returns c = record {
-  is = goes_on _ _ _ _ _ c.in_ok-record.ensures.is (goes_over _ behind _ _ _ _ c.in_ok-behind_span.ensures.is (λ x e. refl));
-  later = let k = c.in_ok-record.ensures.cut in record { end = k.after_end; less = omega arith };
-}
+returns-clause-is c = goes_on _ _ _ _ _ c.in_ok-record.ensures.is (goes_over _ behind _ _ _ _ c.in_ok-behind_span.ensures.is (λ x e. refl))

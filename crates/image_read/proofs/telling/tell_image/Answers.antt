@@ -2,7 +2,7 @@ use Rattle.std.proofs.Common.{refl, arith}
 use Rattle.std.proofs.lemmas.Result.{err_from_is_err_and}
 use Rattle.image_format.proofs.Runs.{stop, go}
 use Rattle.image_format.proofs.Linking.{image_filled}
-use Rattle.image_read.specs.Lent.{part_from}
+use Rattle.records.specs.Read.{part_read}
 use Rattle.image_read.proofs.Tells.{image_stopped}
 use Rattle.image_read.proofs.telling.tell_image.Goals as goal
 
@@ -14,17 +14,17 @@ returns-in_err-record g c =
 pub returns-in_err-tell_nodes : goal.returns-in_err-tell_nodes
 returns-in_err-tell_nodes g c =
     let p = err_from_is_err_and c.from_residual-in_err-tell_nodes.result c.from_residual-in_err-tell_nodes.ensures.1 in
-    let k = c.in_ok-record.ensures.cut.sizes in
-    rw (p.1, p.2) (λ x told. image_stopped (g.S.Sink.told c.tell_nodes.new.sink) g.S.Sink.wants c.in_err-tell_nodes.field-0.0 c.args.bytes.now x (part_from c.in_ok-record.record) (omega arith) c.in_ok-record.ensures.is (omega arith) (c.in_err-tell_nodes.ensures x told))
+    let k = c.in_ok-record.ensures.sizes in
+    rw (p.1, p.2) (λ x told. image_stopped (g.S.Sink.told c.tell_nodes.new.sink) c.in_err-tell_nodes.field-0.0 c.args.bytes.now x (part_read c.in_ok-record.record) (omega arith) c.in_ok-record.ensures.is (omega arith) (c.in_err-tell_nodes.ensures x told))
 
 pub returns-in_err-end_at : goal.returns-in_err-end_at
 returns-in_err-end_at g c =
     let p = err_from_is_err_and c.from_residual-in_err-end_at.result c.from_residual-in_err-end_at.ensures.1 in
-    let k = c.in_ok-record.ensures.cut.sizes in
+    let k = c.in_ok-record.ensures.sizes in
     rw (p.1, p.2) (λ x told. let n = c.in_ok-tell_nodes.ensures x told in image_filled c.args.bytes.now x _ (omega arith) (go _ _ _ _ c.in_ok-record.ensures.is (go _ _ _ _ (n.1 _ (omega arith)) (stop _ _ _ c.in_err-end_at.ensures))))
 
 pub returns : goal.returns
 returns g c =
-    let k = c.in_ok-record.ensures.cut.sizes in
+    let k = c.in_ok-record.ensures.sizes in
     λ x told. let n = c.in_ok-tell_nodes.ensures x told in
     (n.0, image_filled c.args.bytes.now x _ (omega arith) (go _ _ _ _ c.in_ok-record.ensures.is (go _ _ _ _ (n.1 _ (omega arith)) (go _ _ _ _ c.in_ok-end_at.ensures refl))), n.2)

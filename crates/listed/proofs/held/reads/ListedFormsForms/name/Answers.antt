@@ -1,26 +1,23 @@
-use Rattle.std.proofs.Common.{arith}
-use Rattle.listed.proofs.Known.{no_form, no_name, name_stands, name_is}
+use Rattle.std.proofs.Common.{slice_get, option_map, vec_items, sym, ap, ◌∙◌}
+use Rattle.std.proofs.lemmas.Option.{slice_get-map}
+use Rattle.form_format.specs.Lent.{form_lent}
+use Rattle.forms.specs.Forms.{form_or}
+use Rattle.listed.proofs.Known.{lent_at, name_kept}
 use Rattle.listed.proofs.held.reads.ListedFormsForms.name.Goals as goal
 
-pub overflow_add-row : goal.overflow_add-row
-overflow_add-row c =
+pub returns-in_err-names : goal.returns-in_err-names
+returns-in_err-names c =
     let t = c.args.self.now in
-    let s = name_stands t c.args.form c.args.position c.in-Some.row c.in-Some.ensures c.if-at-row.true in
-    let l = t.names.ok.0 in
-    omega (arith, t.names.ok.1, t.names.small)
+    let none = ap (option_map (λ x. x.now)) (sym c.in_err-names.was) ∙ lent_at c.deref.result.now c.args.form c.get.result c.get.ensures.lookup ∙ ap (λ l. slice_get l c.args.form) c.deref.ensures.value in
+    ap (option_map (λ x. x.now)) c.from_residual.ensures ∙ ap (λ o. slice_get (form_or (option_map form_lent o)) c.args.position) none ∙ sym (name_kept t c.args.form c.args.position)
 
-pub index-requires : goal.index-requires
-index-requires c =
+pub returns : goal.returns
+returns c =
     let t = c.args.self.now in
-    let s = name_stands t c.args.form c.args.position c.in-Some.row c.in-Some.ensures c.if-at-row.true in
-    let l = t.names.ok.0 in
-    omega arith
-
-pub returns-in-None : goal.returns-in-None
-returns-in-None c = no_form c.args.self.now c.args.form c.args.position c.in-None.ensures
-
-pub returns-then-at-row : goal.returns-then-at-row
-returns-then-at-row c = name_is c.args.self.now c.args.form c.args.position c.in-Some.row c.in-Some.ensures c.index.result.now c.if-at-row.true c.index.ensures
-
-pub returns-else-at-row : goal.returns-else-at-row
-returns-else-at-row c = no_name c.args.self.now c.args.form c.args.position c.in-Some.row c.in-Some.ensures c.if-at-row.false
+    let names = c.in_ok-names.names.now in
+    let form = ap (option_map (λ x. x.now)) (sym c.in_ok-names.was) ∙ lent_at c.deref.result.now c.args.form c.get.result c.get.ensures.lookup ∙ ap (λ l. slice_get l c.args.form) c.deref.ensures.value in
+    let name = lent_at c.deref-2.result.now c.args.position c.get-2.result c.get-2.ensures.lookup ∙ ap (λ l. slice_get l c.args.position) c.deref-2.ensures.value in
+    ap (option_map (λ x. x.now)) (c.copied.ensures ∙ name)
+    ∙ sym (slice_get-map (λ x. x.now) (vec_items names) c.args.position)
+    ∙ ap (λ o. slice_get (form_or (option_map form_lent o)) c.args.position) form
+    ∙ sym (name_kept t c.args.form c.args.position)
