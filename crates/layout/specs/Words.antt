@@ -1,9 +1,11 @@
--- The words for tables and causes. Assumes nothing.
-use Rattle.std.specs.Prelude.{ℕ, List, codes}
+-- The words for tables, causes and faults. Assumes nothing.
+use Rattle.std.specs.Prelude.{ℕ, List, ◌++◌, codes}
+use Rattle.std.specs.Fmt.{decimal}
 use Rattle.layout.specs.declared.fault.Table.{Table}
 use Rattle.layout.specs.declared.fault.Table.TheVariants as table
 use Rattle.layout.specs.declared.fault.Cause.{Cause}
 use Rattle.layout.specs.declared.fault.Cause.TheVariants as cause
+use Rattle.layout.specs.declared.fault.TableFault.{TableFault}
 
 abbrev pub table_text : Table → List ℕ
 table_text table.Nodes = codes "nodes"
@@ -18,3 +20,6 @@ cause_text cause.Value = codes "value"
 cause_text cause.Entries = codes "entries"
 cause_text cause.Size = codes "size"
 cause_text cause.Nesting = codes "nesting"
+
+abbrev pub fault_text : TableFault → List ℕ
+fault_text f = codes "table " ++ (table_text f.table ++ (codes ", row " ++ (decimal f.row ++ (codes ", cause " ++ cause_text f.cause))))

@@ -1,4 +1,5 @@
 // Where tables are unsound, and why.
+use std::error::Error;
 use std::fmt;
 
 // The tables in the order in which they are judged.
@@ -67,3 +68,20 @@ impl TableFault {
     // The number of the refusal.
     pub const NUMBER: u8 = 9;
 }
+
+impl fmt::Display for TableFault {
+    ghost use Rattle.std.specs.Prelude.{Some};
+    ghost use Rattle.layout.specs.Words.{fault_text};
+
+    ghost output = { λ f. Some (fault_text f) };
+
+    fn fmt<W: fmt::Write>(&self, f: &mut fmt::Formatter<W>) -> fmt::Result {
+        write!(
+            f,
+            "table {}, row {}, cause {}",
+            self.table, self.row, self.cause
+        )
+    }
+}
+
+impl Error for TableFault {}

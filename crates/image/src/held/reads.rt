@@ -7,6 +7,7 @@ ghost use Rattle.image_format.proofs.Payload.{node_types, entry_types};
 ghost use Rattle.image.specs.Held.{document_of};
 
 use crate::held::Bytes;
+use image_format::kind::Kind;
 use image_payload::payload::{behind_span, body, ident, past, perhaps, span, value};
 use linked::parts::Parts;
 use records::take::kind_of;
@@ -41,7 +42,10 @@ fn behind_name(node: &[u8]) -> &[u8]
 fn behind_entry_name(entry: &[u8]) -> &[u8]
     ensures { result.now ≡ entry_types entry.now }
 {
-    past(kind_of(entry) == 6, behind_span(body(entry)))
+    past(
+        kind_of(entry) == Kind::Property as u16,
+        behind_span(body(entry)),
+    )
 }
 
 impl Parts for Bytes<'_> {
@@ -57,7 +61,7 @@ impl Parts for Bytes<'_> {
     fn node_type(&self, n: NodeHandle) -> Option<Identifier<'_>> {
         let node = self.node(n)?;
         let rest = behind_name(node);
-        perhaps(kind_of(rest) == 4, rest)
+        perhaps(kind_of(rest) == Kind::Type as u16, rest)
     }
 
     fn node_span(&self, n: NodeHandle) -> Option<Span> {
@@ -67,19 +71,20 @@ impl Parts for Bytes<'_> {
 
     fn entry_name(&self, e: EntryHandle) -> Option<Identifier<'_>> {
         let entry = self.entry(e)?;
-        perhaps(kind_of(entry) == 6, behind_span(body(entry)))
+        let named = kind_of(entry) == Kind::Property as u16;
+        perhaps(named, behind_span(body(entry)))
     }
 
     fn entry_type(&self, e: EntryHandle) -> Option<Identifier<'_>> {
         let entry = self.entry(e)?;
         let ty = behind_entry_name(entry);
-        perhaps(kind_of(ty) == 4, ty)
+        perhaps(kind_of(ty) == Kind::Type as u16, ty)
     }
 
     fn entry_value(&self, e: EntryHandle) -> Option<Value<'_>> {
         let entry = self.entry(e)?;
         let rest = behind_entry_name(entry);
-        Some(value(past(kind_of(rest) == 4, rest)))
+        Some(value(past(kind_of(rest) == Kind::Type as u16, rest)))
     }
 
     fn entry_span(&self, e: EntryHandle) -> Option<Span> {
