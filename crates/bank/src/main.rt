@@ -30,19 +30,21 @@ fn open(rt: &HostRuntime, what: &str, source: Source<'_>) -> io::Result<()> {
 }
 
 fn main(rt: HostRuntime) -> io::Result<()> {
+    let nodes = sample::nodes();
+    let entries = sample::entries();
     let bank = Source {
         text: sample::TEXT,
-        nodes: &sample::NODES,
-        entries: &sample::ENTRIES,
+        nodes: &nodes,
+        entries: &entries,
     };
     open(&rt, "the bank", bank)?;
     // the first node says that it has one entry less than it has
     let short = NodeRow {
         entries_count: 2,
         below: 1,
-        ..sample::NODES[0]
+        ..nodes[0]
     };
-    let nodes = [short, sample::NODES[1]];
+    let nodes = [short, nodes[1]];
     open(
         &rt,
         "a bank with a lost entry",
