@@ -3,48 +3,30 @@ use super::show::show;
 use image_load::fault::LoadFault;
 use image_load::load::load;
 use image_read::check::check;
-use records::fault::{Cause, RecordFault};
-use std::io;
-
-fn cause_name(cause: Cause) -> &'static str {
-    match cause {
-        Cause::Size => "size",
-        Cause::Missing => "missing",
-        Cause::Length => "length",
-        Cause::Kind => "kind",
-        Cause::Nesting => "nesting",
-        Cause::Body => "body",
-        Cause::After => "after",
-    }
-}
+use records::fault::RecordFault;
+use std::{io, mem};
+use tree::counts::Counts;
 
 // Prints the counts and the tree of an image, or its refusal.
 pub fn open_image(rt: &HostRuntime, what: &str, bytes: &[u8]) -> io::Result<()> {
-    let (nodes, entries) = match check(bytes) {
-        Ok(counts) => (counts.nodes, counts.entries),
-        Err(_) => (0, 0),
-    };
-    match load(rt.alloc(), bytes) {
-        Ok(tree) => {
+    match (check(bytes), load(rt.alloc(), bytes)) {
+        (Ok(Counts { nodes, entries }), Ok(tree)) => {
             println!(rt; "{what}: checked, {nodes} nodes and {entries} entries")?;
             show(rt, &tree, nodes, entries)
         }
-        Err(LoadFault::Image(fault)) => {
+        (Err(fault), _) | (_, Err(LoadFault::Image(fault))) => {
             let number = RecordFault::NUMBER;
-            let place = fault.place;
-            let cause = cause_name(fault.cause);
-            println!(rt; "{what}: refused {number}, place {place}, cause {cause}")
+            println!(rt; "{what}: refused {number}, {fault}")
         }
-        Err(LoadFault::Memory) => println!(rt; "{what}: memory is wanting"),
+        (_, Err(LoadFault::Memory)) => println!(rt; "{what}: memory is wanting"),
     }
 }
 
 // Opens copies of an image: cut short, longer, and with one byte set.
 pub fn open_damaged(rt: &HostRuntime, bytes: &mut Vec<u8>) -> io::Result<()> {
     open_image(rt, "no bytes", &[])?;
-    if !bytes.is_empty() {
-        let last = bytes.len() - 1;
-        open_image(rt, "the image without its last byte", &bytes[..last])?;
+    if let [front @ .., _] = bytes.as_slice() {
+        open_image(rt, "the image without its last byte", front)?;
     }
     bytes.push(0)?;
     open_image(rt, "the image with one byte more", bytes)?;
@@ -68,8 +50,7 @@ fn open_set(
     byte: u8,
 ) -> io::Result<()> {
     if at < bytes.len() {
-        let before = bytes[at];
-        bytes[at] = byte;
+        let before = mem::replace(&mut bytes[at], byte);
         open_image(rt, what, bytes)?;
         bytes[at] = before;
     }

@@ -1,35 +1,18 @@
 // A tree as lines of text: each node and entry in document order, indented by nesting.
 ghost use Rattle.std.specs.Prelude.{◌≤◌};
 
+use common::quoted::quoted;
 use std::alloc::{AllocError, Global};
-use std::io;
+use std::{io, iter};
 use tree::handle::{EntryHandle, NodeHandle};
 use tree::interface::Tree;
 use tree::span::{Identifier, Span};
-use tree::value::Value;
-
-// Bytes in quotes; what is no printable ASCII, a quote or a backslash is a backslash and two digits.
-fn quoted(heap: Global, bytes: &[u8]) -> Result<String, AllocError> {
-    let mut s = String::from_str(heap, "\"")?;
-    for b in bytes {
-        if *b >= 0x20 && *b <= 0x7e && *b != b'"' && *b != b'\\' {
-            s.push(*b as char)?;
-        } else {
-            s.push_str(format!(in heap; "\\{:02x}", *b)?.as_str())?;
-        }
-    }
-    s.push('"')?;
-    Ok(s)
-}
+use tree::value::{Integer, Value};
 
 fn shown_span(heap: Global, span: Option<Span>) -> Result<String, AllocError> {
     match span {
         None => String::from_str(heap, "nowhere"),
-        Some(s) => {
-            let start = s.start;
-            let length = s.length;
-            format!(in heap; "{start}+{length}")
-        }
+        Some(span) => span.to_string(heap),
     }
 }
 
@@ -41,9 +24,8 @@ fn shown_ident(
 ) -> Result<String, AllocError> {
     match ident {
         None => Ok(String::new(heap)),
-        Some(i) => {
-            let bytes = quoted(heap, i.bytes)?;
-            let span = shown_span(heap, Some(i.span))?;
+        Some(Identifier { bytes, span }) => {
+            let bytes = quoted(heap, bytes)?;
             format!(in heap; " {what} {bytes} at {span}")
         }
     }
@@ -57,9 +39,7 @@ fn shown_value(heap: Global, value: Option<Value<'_>>) -> Result<String, AllocEr
             let bytes = quoted(heap, bytes)?;
             format!(in heap; "string {bytes}")
         }
-        Some(Value::Integer(n)) => {
-            let high = n.high;
-            let low = n.low;
+        Some(Value::Integer(Integer { high, low })) => {
             format!(in heap; "integer {high} * 2^64 + {low}")
         }
         Some(Value::Float(bits)) => format!(in heap; "float {:016x}", bits),
@@ -79,14 +59,9 @@ fn shown_role(heap: Global, name: Option<Identifier<'_>>) -> Result<String, Allo
 fn holders<T: Tree>(tree: &T, n: NodeHandle) -> usize
     ensures { result ≤ 32 }
 {
-    let mut at = n;
-    for above in 0..32 {
-        match tree.parent(at) {
-            None => return above,
-            Some(parent) => at = parent,
-        }
-    }
-    32
+    iter::successors(tree.parent(n), |above| tree.parent(*above))
+        .take(32)
+        .count()
 }
 
 // The node that comes next in document order.
@@ -94,14 +69,9 @@ fn following<T: Tree>(tree: &T, n: NodeHandle) -> Option<NodeHandle> {
     if let Some(Some(first)) = tree.block(n) {
         return Some(first);
     }
-    let mut at = n;
-    for _ in 0..32 {
-        if let Some(next) = tree.next_sibling(at) {
-            return Some(next);
-        }
-        at = tree.parent(at)?;
-    }
-    None
+    iter::successors(Some(n), |at| tree.parent(*at))
+        .take(32)
+        .find_map(|at| tree.next_sibling(at))
 }
 
 fn show_entry<T: Tree>(
@@ -111,20 +81,15 @@ fn show_entry<T: Tree>(
     indent: usize,
 ) -> io::Result<()> {
     let heap = rt.alloc();
-    let number = e.number;
     let role = shown_role(heap, tree.entry_name(e))?;
     let ty = shown_ident(heap, "type", tree.entry_type(e))?;
     let value = shown_value(heap, tree.entry_value(e))?;
     let span = shown_span(heap, tree.entry_span(e))?;
-    println!(rt;
-        "{:indent$}entry {number}{role}{ty} is {value}, span {span}",
-        ""
-    )
+    println!(rt; "{:indent$}entry {e}{role}{ty} is {value}, span {span}", "")
 }
 
 fn show_node<T: Tree>(rt: &HostRuntime, tree: &T, n: NodeHandle, entries: u32) -> io::Result<()> {
     let heap = rt.alloc();
-    let number = n.number;
     let indent = 4 * holders(tree, n);
     let name = shown_ident(heap, "name", tree.name(n))?;
     let ty = shown_ident(heap, "type", tree.node_type(n))?;
@@ -134,34 +99,17 @@ fn show_node<T: Tree>(rt: &HostRuntime, tree: &T, n: NodeHandle, entries: u32) -
         Some(None) => "an empty block",
         Some(Some(_)) => "a block",
     };
-    println!(rt;
-        "{:indent$}node {number}{name}{ty}, span {span}, {block}",
-        ""
-    )?;
-    let mut at = tree.first_entry(n);
-    for _ in 0..entries {
-        match at {
-            None => break,
-            Some(e) => {
-                show_entry(rt, tree, e, indent + 2)?;
-                at = tree.next_entry(e);
-            }
-        }
+    println!(rt; "{:indent$}node {n}{name}{ty}, span {span}, {block}", "")?;
+    for e in iter::successors(tree.first_entry(n), |e| tree.next_entry(*e)).take(entries as usize) {
+        show_entry(rt, tree, e, indent + 2)?;
     }
     Ok(())
 }
 
 // A line for each of at most `nodes` nodes and `entries` entries.
 pub fn show<T: Tree>(rt: &HostRuntime, tree: &T, nodes: u32, entries: u32) -> io::Result<()> {
-    let mut at = tree.first_node();
-    for _ in 0..nodes {
-        match at {
-            None => break,
-            Some(n) => {
-                show_node(rt, tree, n, entries)?;
-                at = following(tree, n);
-            }
-        }
+    for n in iter::successors(tree.first_node(), |n| following(tree, *n)).take(nodes as usize) {
+        show_node(rt, tree, n, entries)?;
     }
     Ok(())
 }

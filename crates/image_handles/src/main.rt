@@ -4,7 +4,7 @@
 mod shown;
 
 use image_load::load::load;
-use shown::{shown_block, shown_entry, shown_ident, shown_node, shown_span, shown_value};
+use shown::{shown, shown_block, shown_ident, shown_value};
 use std::{env, fs, io};
 use tree::handle::{EntryHandle, NodeHandle};
 use tree::interface::Tree;
@@ -12,25 +12,25 @@ use tree::interface::Tree;
 // The answers of the calls that take a node.
 fn ask_node<T: Tree>(rt: &HostRuntime, tree: &T, n: NodeHandle) -> io::Result<()> {
     let heap = rt.alloc();
-    let next = shown_node(heap, tree.next_sibling(n))?;
-    let parent = shown_node(heap, tree.parent(n))?;
+    let next = shown(heap, tree.next_sibling(n))?;
+    let parent = shown(heap, tree.parent(n))?;
     let block = shown_block(heap, tree.block(n))?;
-    let entry = shown_entry(heap, tree.first_entry(n))?;
+    let entry = shown(heap, tree.first_entry(n))?;
     let name = shown_ident(heap, tree.name(n))?;
     let ty = shown_ident(heap, tree.node_type(n))?;
-    let span = shown_span(heap, tree.node_span(n))?;
+    let span = shown(heap, tree.node_span(n))?;
     println!(rt; "  node: {next} {parent} {block} {entry} {name} {ty} {span}")
 }
 
 // The answers of the calls that take an entry.
 fn ask_entry<T: Tree>(rt: &HostRuntime, tree: &T, e: EntryHandle) -> io::Result<()> {
     let heap = rt.alloc();
-    let next = shown_entry(heap, tree.next_entry(e))?;
-    let node = shown_node(heap, tree.node_of(e))?;
+    let next = shown(heap, tree.next_entry(e))?;
+    let node = shown(heap, tree.node_of(e))?;
     let name = shown_ident(heap, tree.entry_name(e))?;
     let ty = shown_ident(heap, tree.entry_type(e))?;
     let value = shown_value(heap, tree.entry_value(e))?;
-    let span = shown_span(heap, tree.entry_span(e))?;
+    let span = shown(heap, tree.entry_span(e))?;
     println!(rt; "  entry: {next} {node} {name} {ty} {value} {span}")
 }
 
@@ -41,13 +41,12 @@ fn ask<T: Tree>(rt: &HostRuntime, tree: &T, number: u32) -> io::Result<()> {
 }
 
 fn ask_all<T: Tree>(rt: &HostRuntime, tree: &T, end: u32) -> io::Result<()> {
-    let first = shown_node(rt.alloc(), tree.first_node())?;
+    let first = shown(rt.alloc(), tree.first_node())?;
     println!(rt; "first node: {first}")?;
-    for number in 0..end {
+    for number in (0..=end).chain([u32::MAX]) {
         ask(rt, tree, number)?;
     }
-    ask(rt, tree, end)?;
-    ask(rt, tree, u32::MAX)
+    Ok(())
 }
 
 fn main(rt: HostRuntime) -> io::Result<()> {

@@ -5,11 +5,11 @@ use Rattle.tree.specs.Outcome.{and_then, over}
 use Rattle.layout.specs.Rows.{Tables}
 use Rattle.tree.specs.Counts.{counts_of}
 use Rattle.layout.specs.Tables.{rows, entry_rows, limited, checked}
-use Rattle.layout.specs.Layout.{Laid}
+use Rattle.layout.specs.Layout.{Laid, Exact, Unique}
 use Rattle.layout.specs.declared.fault.Table.{Table}
 use Rattle.layout.specs.declared.fault.TableFault.{TableFault}
 use Rattle.tree.specs.declared.counts.Counts.{Counts}
-use Rattle.layout.proofs.Reading.{laid}
+use Rattle.layout.proofs.Reading.{laid, exact, unique}
 use Rattle.layout.proofs.Placed.{counted}
 
 abbrev pub steps : Result (Unit {0}) TableFault → Result (Unit {0}) TableFault → Result (Unit {0}) TableFault → Result (Unit {0}) TableFault → Result (Unit {0}) TableFault → Counts → Result Counts TableFault
@@ -43,3 +43,7 @@ pub checked_by : (t : Tables) (a b c d e : Result (Unit {0}) TableFault)
     → e ≡ limited Table.Text 1048576 (length t.text)
     → steps a b c d e (row_counts t) ≡ checked t
 checked_by t a b c d e e₁ e₂ e₃ e₄ e₅ = (λ j. steps (e₁ j) (e₂ j) (e₃ j) (e₄ j) (e₅ j) (row_counts t)) ∙ sym (checked_is t)
+
+-- the answer is that of the definition: so it is exact, and there is no other document
+pub told : (t : Tables) (r : Result Counts TableFault) → r ≡ checked t → record { answer : r ≡ checked t; exact : Exact t r; unique : Unique t }
+told t r e = record { answer = e; exact = exact t r e; unique = unique t }

@@ -3,3 +3,4 @@ pub mod Tables
 pub mod Layout
 pub mod Laid
 pub mod Typed
+pub mod Words

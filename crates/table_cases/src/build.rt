@@ -1,10 +1,11 @@
 // Rows and verdicts of cases.
-use layout::fault::{Cause, Table, TableFault};
+use layout::fault::TableFault;
 use layout::rows::{EntryRow, IdentRow, NodeRow, Part, ValueRow};
 use std::alloc::{AllocError, Global};
 use std::io;
 use table_check::check::check;
 use table_check::source::Source;
+use tree::counts::Counts;
 use tree::span::Span;
 
 pub fn ident(start: u32, length: u32) -> IdentRow {
@@ -51,57 +52,29 @@ pub fn entry(value: ValueRow) -> EntryRow {
 
 // Nodes in one another, the last without a block.
 pub fn chain(heap: Global, count: u32) -> Result<Vec<NodeRow>, AllocError> {
-    let mut rows = Vec::new(heap);
-    for i in 0..count {
-        let below = count - 1 - i;
-        rows.push(node(0, 0, below > 0, below))?;
-    }
-    Ok(rows)
+    (0..count)
+        .rev()
+        .map(|below| node(0, 0, below > 0, below))
+        .collect(heap)
 }
 
-fn table_name(table: Table) -> &'static str {
-    match table {
-        Table::Nodes => "nodes",
-        Table::Entries => "entries",
-        Table::Text => "text",
-    }
-}
-
-fn cause_name(cause: Cause) -> &'static str {
-    match cause {
-        Cause::Limit => "limit",
-        Cause::Name => "name",
-        Cause::Type => "type",
-        Cause::Value => "value",
-        Cause::Entries => "entries",
-        Cause::Size => "size",
-        Cause::Nesting => "nesting",
+// Tables without a text.
+pub fn rows<'a>(nodes: &'a [NodeRow], entries: &'a [EntryRow]) -> Source<'a> {
+    Source {
+        text: b"",
+        nodes,
+        entries,
     }
 }
 
 // Prints the verdict on tables.
-pub fn run<'a>(
-    rt: &HostRuntime,
-    case: &str,
-    text: &'a [u8],
-    nodes: &'a [NodeRow],
-    entries: &'a [EntryRow],
-) -> io::Result<()> {
-    match check(Source {
-        text,
-        nodes,
-        entries,
-    }) {
-        Ok(counts) => {
-            let n = counts.nodes;
-            let e = counts.entries;
-            println!(rt; "{case}: {n} nodes, {e} entries")
+pub fn run(rt: &HostRuntime, case: &str, source: Source<'_>) -> io::Result<()> {
+    match check(source) {
+        Ok(Counts { nodes, entries }) => {
+            println!(rt; "{case}: {nodes} nodes, {entries} entries")
         }
-        Err(fault) => {
+        Err(TableFault { table, row, cause }) => {
             let number = TableFault::NUMBER;
-            let table = table_name(fault.table);
-            let row = fault.row;
-            let cause = cause_name(fault.cause);
             println!(rt; "{case}: refused {number}, {table} row {row}, {cause}")
         }
     }

@@ -1,187 +1,115 @@
 // Every pair of causes at one row whose rank matters: the upper is given.
-use crate::build::{chain, entry, node, outside, run as case};
+use crate::build::{chain, entry, node, outside, rows, run as case};
 use layout::rows::{EntryRow, NodeRow, ValueRow};
 use std::io;
 
-fn at_nodes(rt: &HostRuntime) -> io::Result<()> {
-    let over = vec![in rt.alloc(); NodeRow {
+fn named(row: NodeRow) -> NodeRow {
+    NodeRow {
         name: outside(),
-        ..node(0, 0, false, 0)
-    }; 65_536]?;
-    case(rt, "limit and name", b"", &over, &[])?;
+        ..row
+    }
+}
+
+fn typed(row: NodeRow) -> NodeRow {
+    NodeRow {
+        ty: Some(outside()),
+        ..row
+    }
+}
+
+fn entry_named(row: EntryRow) -> EntryRow {
+    EntryRow {
+        name: Some(outside()),
+        ..row
+    }
+}
+
+fn entry_typed(row: EntryRow) -> EntryRow {
+    EntryRow {
+        ty: Some(outside()),
+        ..row
+    }
+}
+
+fn at_nodes(rt: &HostRuntime) -> io::Result<()> {
     let bare = node(0, 0, false, 0);
-    case(
-        rt,
-        "name and type",
-        b"",
-        &[NodeRow {
-            name: outside(),
-            ty: Some(outside()),
-            ..bare
-        }],
-        &[],
-    )?;
-    case(
-        rt,
-        "name and entries",
-        b"",
-        &[NodeRow {
-            name: outside(),
-            ..node(1, 0, false, 0)
-        }],
-        &[],
-    )?;
-    case(
-        rt,
-        "name and size",
-        b"",
-        &[NodeRow {
-            name: outside(),
-            ..node(0, 0, true, 1)
-        }],
-        &[],
-    )?;
-    case(
-        rt,
-        "type and entries",
-        b"",
-        &[NodeRow {
-            ty: Some(outside()),
-            ..node(1, 0, false, 0)
-        }],
-        &[],
-    )?;
-    case(
-        rt,
-        "type and size",
-        b"",
-        &[NodeRow {
-            ty: Some(outside()),
-            ..node(0, 0, true, 1)
-        }],
-        &[],
-    )?;
-    case(rt, "entries and size", b"", &[node(1, 0, true, 1)], &[])
+    let over = vec![in rt.alloc(); named(bare); 65_536]?;
+    case(rt, "limit and name", rows(&over, &[]))?;
+    for (what, row) in [
+        ("name and type", named(typed(bare))),
+        ("name and entries", named(node(1, 0, false, 0))),
+        ("name and size", named(node(0, 0, true, 1))),
+        ("type and entries", typed(node(1, 0, false, 0))),
+        ("type and size", typed(node(0, 0, true, 1))),
+        ("entries and size", node(1, 0, true, 1)),
+    ] {
+        case(rt, what, rows(&[row], &[]))?;
+    }
+    Ok(())
 }
 
 // The row of nesting 33, with something else wrong in it.
-fn deep(rt: &HostRuntime, what: &str, last: NodeRow) -> io::Result<()> {
-    let mut rows = chain(rt.alloc(), 33)?;
-    let _ = rows.pop();
-    rows.push(last)?;
-    case(rt, what, b"", &rows, &[])
-}
-
 fn at_nesting(rt: &HostRuntime) -> io::Result<()> {
     let bare = node(0, 0, false, 0);
-    deep(
-        rt,
-        "name and nesting",
-        NodeRow {
-            name: outside(),
-            ..bare
-        },
-    )?;
-    deep(
-        rt,
-        "type and nesting",
-        NodeRow {
-            ty: Some(outside()),
-            ..bare
-        },
-    )?;
-    deep(rt, "entries and nesting", node(1, 0, false, 0))?;
-    deep(rt, "size and nesting", node(0, 0, false, 1))
+    let mut deep = chain(rt.alloc(), 33)?;
+    for (what, row) in [
+        ("name and nesting", named(bare)),
+        ("type and nesting", typed(bare)),
+        ("entries and nesting", node(1, 0, false, 0)),
+        ("size and nesting", node(0, 0, false, 1)),
+    ] {
+        if let Some(last) = deep.last_mut() {
+            *last = row;
+        }
+        case(rt, what, rows(&deep, &[]))?;
+    }
+    Ok(())
 }
 
 fn at_entries(rt: &HostRuntime) -> io::Result<()> {
-    let one = [node(0, 1, false, 0)];
+    let null = entry(ValueRow::Null);
     let odd = entry(ValueRow::Unknown(1));
     let more = vec![in rt.alloc(); odd; 65_536]?;
     case(
         rt,
         "limit and value",
-        b"",
-        &[node(0, 65_536, false, 0)],
-        &more,
+        rows(&[node(0, 65_536, false, 0)], &more),
     )?;
-    case(
-        rt,
-        "entry's name and type",
-        b"",
-        &one,
-        &[EntryRow {
-            name: Some(outside()),
-            ty: Some(outside()),
-            ..odd
-        }],
-    )?;
-    case(
-        rt,
-        "entry's name and value",
-        b"",
-        &one,
-        &[EntryRow {
-            name: Some(outside()),
-            ..odd
-        }],
-    )?;
-    case(
-        rt,
-        "entry's name and no node",
-        b"",
-        &[],
-        &[EntryRow {
-            name: Some(outside()),
-            ..entry(ValueRow::Null)
-        }],
-    )?;
-    case(
-        rt,
-        "entry's type and value",
-        b"",
-        &one,
-        &[EntryRow {
-            ty: Some(outside()),
-            ..odd
-        }],
-    )?;
-    case(
-        rt,
-        "entry's type and no node",
-        b"",
-        &[],
-        &[EntryRow {
-            ty: Some(outside()),
-            ..entry(ValueRow::Null)
-        }],
-    )?;
-    case(rt, "entry's value and no node", b"", &[], &[odd])
+    let one = [node(0, 1, false, 0)];
+    for (what, row, of_a_node) in [
+        ("entry's name and type", entry_named(entry_typed(odd)), true),
+        ("entry's name and value", entry_named(odd), true),
+        ("entry's name and no node", entry_named(null), false),
+        ("entry's type and value", entry_typed(odd), true),
+        ("entry's type and no node", entry_typed(null), false),
+        ("entry's value and no node", odd, false),
+    ] {
+        let nodes = if of_a_node { one.as_slice() } else { &[] };
+        case(rt, what, rows(nodes, &[row]))?;
+    }
+    Ok(())
 }
 
 fn between(rt: &HostRuntime) -> io::Result<()> {
-    let two = [node(0, 1, false, 0), node(1, 0, true, 1)];
     case(
         rt,
         "node row 1 and entry row 0",
-        b"",
-        &two,
-        &[entry(ValueRow::Unknown(1))],
+        rows(
+            &[node(0, 1, false, 0), node(1, 0, true, 1)],
+            &[entry(ValueRow::Unknown(1))],
+        ),
     )?;
-    let rows = [
-        node(0, 1, true, 1),
-        NodeRow {
-            name: outside(),
-            ..node(1, 0, false, 0)
-        },
-        node(5, 0, false, 0),
-    ];
     case(
         rt,
         "node rows 1 and 2",
-        b"",
-        &rows,
-        &[entry(ValueRow::Null)],
+        rows(
+            &[
+                node(0, 1, true, 1),
+                named(node(1, 0, false, 0)),
+                node(5, 0, false, 0),
+            ],
+            &[entry(ValueRow::Null)],
+        ),
     )
 }
 

@@ -1,14 +1,15 @@
 // Whether tables are sound.
 ghost use Rattle.std.specs.Prelude.{◌≡◌, ℕ, ◌+◌, ◌^◌, ◌<◌, ◌≤◌, length};
 ghost use Rattle.layout.specs.Rows.{in_text, perhaps_in_text, value_known};
-ghost use Rattle.layout.specs.Tables.{line, node_cause, entry_cause, judged, limited, checked, entry_rows, entry_row};
+ghost use Rattle.layout.specs.Tables.{line, node_cause, entry_cause, judged, limited, checked, entry_rows};
 ghost use Rattle.layout.specs.Layout.{Exact, Unique};
 ghost use Rattle.layout.proofs.Steps.{Judges};
 ghost use Rattle.table_check.specs.Given.{given};
 
+use super::siblings::Siblings;
 use super::source::Source;
 use layout::fault::{Cause, Table, TableFault};
-use layout::rows::{IdentRow, NodeRow, Part, ValueRow};
+use layout::rows::{EntryRow, IdentRow, Part, ValueRow};
 use tree::counts::Counts;
 
 fn lies_in(text: &[u8], part: Part) -> bool
@@ -20,21 +21,15 @@ fn lies_in(text: &[u8], part: Part) -> bool
 fn ident_lies_in(text: &[u8], ident: Option<IdentRow>) -> bool
     ensures { result ≡ perhaps_in_text text.now ident }
 {
-    match ident {
-        None => true,
-        Some(i) => lies_in(text, i.part),
-    }
+    ident.is_none_or(|i| lies_in(text, i.part))
 }
 
 fn is_known(text: &[u8], value: ValueRow) -> bool
     ensures { result ≡ value_known text.now value }
 {
     match value {
-        ValueRow::Null => true,
+        ValueRow::Null | ValueRow::Integer(_) | ValueRow::Float(_) | ValueRow::Bool(_) => true,
         ValueRow::String(part) => lies_in(text, part),
-        ValueRow::Integer(_) => true,
-        ValueRow::Float(_) => true,
-        ValueRow::Bool(_) => true,
         ValueRow::Unknown(_) => false,
     }
 }
@@ -44,24 +39,12 @@ fn line_of(source: Source<'_>, i: usize) -> usize
     requires { i ≤ length source.nodes.now }
     ensures { result ≡ line (given source.entry) i }
 {
-    if i == 0 {
-        return 0;
-    }
-    let before = source.nodes[i - 1];
-    before.entries_start as usize + before.entries_count as usize
-}
-
-fn limit(table: Table, most: usize, n: usize) -> Result<(), TableFault>
-    ensures { result ≡ limited table most n }
-{
-    if n <= most {
-        Ok(())
-    } else {
-        Err(TableFault {
-            table,
-            row: 0,
-            cause: Cause::Limit,
-        })
+    match i.checked_sub(1) {
+        None => 0,
+        Some(before) => {
+            let row = source.nodes[before];
+            row.entries_start as usize + row.entries_count as usize
+        }
     }
 }
 
@@ -84,19 +67,14 @@ fn node_cause(source: Source<'_>, nesting: usize, i: usize, to: usize) -> Option
     if i + 1 + row.below as usize > to || (!row.block && row.below != 0) {
         return Some(Cause::Size);
     }
-    if nesting > 32 {
-        return Some(Cause::Nesting);
-    }
-    None
+    (nesting > 32).then_some(Cause::Nesting)
 }
 
-// What is wrong with entry row `k`; the nodes take the rows before `taken`.
-fn entry_cause(source: Source<'_>, k: usize, taken: usize) -> Option<Cause>
-    requires within { k < length source.entries.now }
-    requires taken { taken ≡ line (given source) (length source.nodes.now) }
-    ensures { result ≡ entry_cause (given source.entry) k (entry_row (given source.entry) k) }
+// What is wrong with `row`, entry row `k`; the nodes take the rows before `taken`.
+fn entry_cause(source: Source<'_>, k: usize, row: EntryRow, taken: usize) -> Option<Cause>
+    requires { taken ≡ line (given source) (length source.nodes.now) }
+    ensures { result ≡ entry_cause (given source.entry) k row }
 {
-    let row = source.entries[k];
     if !ident_lies_in(source.text, row.name) {
         return Some(Cause::Name);
     }
@@ -106,10 +84,7 @@ fn entry_cause(source: Source<'_>, k: usize, taken: usize) -> Option<Cause>
     if !is_known(source.text, row.value) {
         return Some(Cause::Value);
     }
-    if k >= taken {
-        return Some(Cause::Entries);
-    }
-    None
+    (k >= taken).then_some(Cause::Entries)
 }
 
 // Refuses a row, where there is a cause.
@@ -127,6 +102,13 @@ fn judge(table: Table, row: usize, cause: Option<Cause>) -> Result<(), TableFaul
     }
 }
 
+// Refuses row 0 of a table with more than `most` rows.
+fn limit(table: Table, most: usize, n: usize) -> Result<(), TableFault>
+    ensures { result ≡ limited table most n }
+{
+    judge(table, 0, (n > most).then_some(Cause::Limit))
+}
+
 // Judges the node rows from `from` up to `to`, which have the nesting `nesting`, and those below them.
 fn judge_nodes(source: Source<'_>, nesting: usize, from: usize, to: usize) -> Result<(), TableFault>
     requires within { to ≤ length source.nodes.now }
@@ -134,12 +116,9 @@ fn judge_nodes(source: Source<'_>, nesting: usize, from: usize, to: usize) -> Re
     requires shallow { nesting ≤ 33 }
     ensures { Judges (given source.entry) nesting from to result }
 {
-    let mut i = from;
-    while i < to {
+    for (i, end) in Siblings::new(source.nodes, from, to) {
         judge(Table::Nodes, i, node_cause(source, nesting, i, to))?;
-        let end = i + 1 + source.nodes[i].below as usize;
         judge_nodes(source, nesting + 1, i + 1, end)?;
-        i = end;
     }
     Ok(())
 }
@@ -150,10 +129,8 @@ fn judge_entries(source: Source<'_>) -> Result<(), TableFault>
     ensures { result ≡ entry_rows (given source.entry) 0 source.entry.entries.now }
 {
     let taken = line_of(source, source.nodes.len());
-    let mut k = 0;
-    while k < source.entries.len() {
-        judge(Table::Entries, k, entry_cause(source, k, taken))?;
-        k += 1;
+    for (k, row) in source.entries.iter().enumerate() {
+        judge(Table::Entries, k, entry_cause(source, k, *row, taken))?;
     }
     Ok(())
 }

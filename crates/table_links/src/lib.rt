@@ -2,4 +2,5 @@
 
 mod linking;
 pub mod links;
+mod sound;
 mod typed;

@@ -7,21 +7,21 @@ ghost use Rattle.layout.specs.Typed.{typed as types_kept};
 ghost use Rattle.table_check.specs.Given.{given};
 
 use super::linking::{link_entries, link_nodes};
-use super::typed::{note_entries, note_nodes, note_text};
+use super::sound::Sound;
+use super::typed::note_all;
 use index::keyed::Keyed;
 use index::link::{EntryLink, NodeLink};
 use index::links::Links;
 use std::alloc::{AllocError, Global};
-use table_check::check::check;
 use table_check::source::Source;
 
 // The numbers in tables are those of their types.
 fn note_source(source: Source<'_>)
     ensures { types_kept (given source.entry) ≡ true }
 {
-    note_text(source.text);
-    note_nodes(source.nodes);
-    note_entries(source.entries);
+    note_all(source.text);
+    note_all(source.nodes);
+    note_all(source.entries);
 }
 
 // The links of the nodes and of the entries, none where the tables are unsound.
@@ -34,12 +34,14 @@ fn link_all(
 {
     let mut nodes = Vec::new(heap);
     let mut entries = Vec::new(heap);
-    if check(source).is_err() {
-        return Ok((nodes, entries));
+    match Sound::new(source) {
+        None => Ok((nodes, entries)),
+        Some(tables) => {
+            link_nodes(tables, 0, tables.source.nodes.len(), None, &mut nodes)?;
+            link_entries(tables, &mut entries)?;
+            Ok((nodes, entries))
+        }
     }
-    link_nodes(source, 0, source.nodes.len(), None, &mut nodes)?;
-    link_entries(source, &mut entries)?;
-    Ok((nodes, entries))
 }
 
 // The links of the document that the tables make, and what is known of that document. Only memory can be wanting.
@@ -51,8 +53,5 @@ pub fn link(heap: Global, source: Source<'_>) -> Result<Links, AllocError>
 {
     note_source(source);
     let (nodes, entries) = link_all(heap, source)?;
-    match Links::new(nodes, entries) {
-        Some(links) => Ok(links),
-        None => unreachable(),
-    }
+    Ok(Links::new(nodes, entries).unwrap())
 }

@@ -3,7 +3,7 @@ ghost use Rattle.std.specs.Prelude.{◌≡◌, IfOk};
 ghost use Rattle.image_format.specs.Law.{Made};
 ghost use Rattle.image.specs.Held.{meant};
 
-use crate::held::Image;
+use crate::held::{Bytes, Image};
 use image_read::links::link;
 use std::alloc::{AllocError, Global};
 
@@ -12,5 +12,8 @@ pub fn make<'a>(heap: Global, bytes: &'a [u8]) -> Result<Image<'a>, AllocError>
     ensures { IfOk result (λ t. Made bytes.now (meant t)) }
 {
     let links = link(heap, bytes)?;
-    Ok(Image { bytes, links })
+    Ok(Image {
+        parts: Bytes { bytes },
+        links,
+    })
 }

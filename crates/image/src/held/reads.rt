@@ -1,64 +1,33 @@
-// What a tree made of an image answers.
-ghost use Rattle.std.specs.Prelude.{◌≡◌, Some, None, MatchOption};
-ghost use Rattle.std.specs.Option.{option_map};
-ghost use Rattle.tree.specs.Going.{first_node, found, found_entry};
-ghost use Rattle.index.specs.Links.{link as node_link, entry_link};
+// What an image says of the nodes and entries of its document.
+ghost use Rattle.std.specs.Prelude.{◌≡◌, Some, OnSome, IsSomeAnd};
+ghost use Rattle.tree.specs.Going.{found, found_entry};
 ghost use Rattle.records.proofs.Numbers.{bytes_from_are};
 ghost use Rattle.image_format.proofs.Answering.{NodeTold, EntryTold, lawful_image};
 ghost use Rattle.image_format.proofs.Payload.{node_types, entry_types};
-ghost use Rattle.image.specs.Held.{meant};
+ghost use Rattle.image.specs.Held.{document_of};
 
-use crate::held::Image;
+use crate::held::Bytes;
+use image_format::kind::Kind;
 use image_payload::payload::{behind_span, body, ident, past, perhaps, span, value};
-use index::link::{EntryLink, NodeLink};
+use linked::parts::Parts;
 use records::take::kind_of;
 use tree::handle::{EntryHandle, NodeHandle};
-use tree::interface::Tree;
 use tree::span::{Identifier, Span};
 use tree::value::Value;
 
-impl Image<'_> {
-    // The number of the first node.
-    fn first(&self) -> Option<u32>
-        ensures { option_map (λ n. record { number = n }) result ≡ first_node (meant self.now) }
-    {
-        self.links.nodes.first()
-    }
-
-    // What leads on from a node.
-    fn link(&self, n: NodeHandle) -> Option<NodeLink>
-        ensures { result ≡ option_map node_link (found (meant self.now) n) }
-    {
-        self.links.nodes.get(n.number)
-    }
-
-    // What leads on from an entry.
-    fn entry_link(&self, e: EntryHandle) -> Option<EntryLink>
-        ensures { result ≡ option_map entry_link (found_entry (meant self.now) e) }
-    {
-        self.links.entries.get(e.number)
-    }
-}
-
-impl Image<'_> {
+impl Bytes<'_> {
     // The bytes from a node on.
-    fn node_at(&self, n: NodeHandle) -> Option<&[u8]>
-        ensures { MatchOption result (found (meant self.now) n ≡ None) (λ xs. NodeTold (found (meant self.now) n) xs.now) }
+    fn node(&self, n: NodeHandle) -> Option<&[u8]>
+        ensures { let o = found (document_of self.now) n in OnSome o (IsSomeAnd result (λ xs. NodeTold o xs.now)) }
     {
-        match self.link(n) {
-            None => None,
-            Some(_) => Some(&self.bytes[n.number as usize..]),
-        }
+        self.bytes.get(n.number as usize..)
     }
 
     // The bytes from an entry on.
-    fn entry_at(&self, e: EntryHandle) -> Option<&[u8]>
-        ensures { MatchOption result (found_entry (meant self.now) e ≡ None) (λ xs. EntryTold (found_entry (meant self.now) e) xs.now) }
+    fn entry(&self, e: EntryHandle) -> Option<&[u8]>
+        ensures { let o = found_entry (document_of self.now) e in OnSome o (IsSomeAnd result (λ xs. EntryTold o xs.now)) }
     {
-        match self.entry_link(e) {
-            None => None,
-            Some(_) => Some(&self.bytes[e.number as usize..]),
-        }
+        self.bytes.get(e.number as usize..)
     }
 }
 
@@ -73,80 +42,53 @@ fn behind_name(node: &[u8]) -> &[u8]
 fn behind_entry_name(entry: &[u8]) -> &[u8]
     ensures { result.now ≡ entry_types entry.now }
 {
-    past(kind_of(entry) == 6, behind_span(body(entry)))
+    past(
+        kind_of(entry) == Kind::Property as u16,
+        behind_span(body(entry)),
+    )
 }
 
-impl Tree for Image<'_> {
-    ghost meaning = { meant };
+impl Parts for Bytes<'_> {
+    ghost document = { document_of };
 
-    ghost lawful = { λ t. lawful_image t.bytes.now (bytes_from_are t.bytes.now t.typed) };
-
-    fn first_node(&self) -> Option<NodeHandle> {
-        match self.first() {
-            None => None,
-            Some(number) => Some(NodeHandle { number }),
-        }
-    }
-
-    fn next_sibling(&self, n: NodeHandle) -> Option<NodeHandle> {
-        self.link(n)?.next
-    }
-
-    fn parent(&self, n: NodeHandle) -> Option<NodeHandle> {
-        self.link(n)?.parent
-    }
-
-    fn block(&self, n: NodeHandle) -> Option<Option<NodeHandle>> {
-        self.link(n)?.block
-    }
-
-    fn first_entry(&self, n: NodeHandle) -> Option<EntryHandle> {
-        self.link(n)?.entry
-    }
-
-    fn next_entry(&self, e: EntryHandle) -> Option<EntryHandle> {
-        self.entry_link(e)?.next
-    }
-
-    fn node_of(&self, e: EntryHandle) -> Option<NodeHandle> {
-        Some(self.entry_link(e)?.node)
-    }
+    ghost lawful = { λ p. lawful_image p.bytes.now (bytes_from_are p.bytes.now p.typed) };
 
     fn name(&self, n: NodeHandle) -> Option<Identifier<'_>> {
-        let node = self.node_at(n)?;
+        let node = self.node(n)?;
         Some(ident(behind_span(body(node))))
     }
 
     fn node_type(&self, n: NodeHandle) -> Option<Identifier<'_>> {
-        let node = self.node_at(n)?;
+        let node = self.node(n)?;
         let rest = behind_name(node);
-        perhaps(kind_of(rest) == 4, rest)
+        perhaps(kind_of(rest) == Kind::Type as u16, rest)
     }
 
     fn node_span(&self, n: NodeHandle) -> Option<Span> {
-        let node = self.node_at(n)?;
+        let node = self.node(n)?;
         Some(span(body(node)))
     }
 
     fn entry_name(&self, e: EntryHandle) -> Option<Identifier<'_>> {
-        let entry = self.entry_at(e)?;
-        perhaps(kind_of(entry) == 6, behind_span(body(entry)))
+        let entry = self.entry(e)?;
+        let named = kind_of(entry) == Kind::Property as u16;
+        perhaps(named, behind_span(body(entry)))
     }
 
     fn entry_type(&self, e: EntryHandle) -> Option<Identifier<'_>> {
-        let entry = self.entry_at(e)?;
+        let entry = self.entry(e)?;
         let ty = behind_entry_name(entry);
-        perhaps(kind_of(ty) == 4, ty)
+        perhaps(kind_of(ty) == Kind::Type as u16, ty)
     }
 
     fn entry_value(&self, e: EntryHandle) -> Option<Value<'_>> {
-        let entry = self.entry_at(e)?;
+        let entry = self.entry(e)?;
         let rest = behind_entry_name(entry);
-        Some(value(past(kind_of(rest) == 4, rest)))
+        Some(value(past(kind_of(rest) == Kind::Type as u16, rest)))
     }
 
     fn entry_span(&self, e: EntryHandle) -> Option<Span> {
-        let entry = self.entry_at(e)?;
+        let entry = self.entry(e)?;
         Some(span(body(entry)))
     }
 }

@@ -4,7 +4,7 @@ ghost use Rattle.layout.specs.Layout.{Made};
 ghost use Rattle.table_check.specs.Given.{given};
 ghost use Rattle.tables.specs.Held.{meant};
 
-use crate::held::Tables;
+use crate::held::{Rows, Tables};
 use std::alloc::{AllocError, Global};
 use table_check::source::Source;
 use table_links::links::link;
@@ -14,5 +14,8 @@ pub fn make<'a>(heap: Global, source: Source<'a>) -> Result<Tables<'a>, AllocErr
     ensures { IfOk result (λ t. Made (given source.entry) (meant t)) }
 {
     let links = link(heap, source)?;
-    Ok(Tables { source, links })
+    Ok(Tables {
+        parts: Rows { source },
+        links,
+    })
 }

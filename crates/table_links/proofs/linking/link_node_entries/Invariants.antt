@@ -1,4 +1,4 @@
-use Rattle.std.proofs.Common.{◌≡◌, ◌-◌, ◌≤◌, ◌++◌, vec_items}
+use Rattle.std.proofs.Common.{◌≡◌, ◌-◌, ◌++◌, vec_items}
 use Rattle.tree.specs.Going.{entries_from}
 use Rattle.index.specs.Links.{entry_links}
 use Rattle.layout.specs.Rows.{picked}
@@ -8,9 +8,5 @@ use Rattle.table_links.proofs.linking.link_node_entries.Given as goal
 -- the links so far, with those of the rows from k on, are all
 abbrev pub invariant-loop-k : goal.invariant-loop-k
 invariant-loop-k l =
-    (l.k ≤ l.end)
-    × (vec_items l.out ++ entry_links (entries_from l.node (picked (tables_in l.source) l.k (l.end - l.k)))
-    ≡ vec_items l.initial.out ++ entry_links (entries_from l.node (picked (tables_in l.source) l.start l.count)))
-
-abbrev pub decreases-loop-k : goal.decreases-loop-k
-decreases-loop-k l = l.end - l.k
+    vec_items l.out ++ entry_links (entries_from l.node (picked (tables_in l.tables.source) l.k (l.end - l.k)))
+    ≡ vec_items l.initial.out ++ entry_links (entries_from l.node (picked (tables_in l.tables.source) l.start l.count))

@@ -1,4 +1,5 @@
-use Rattle.std.proofs.Common.{vec_items, refl, ◌∙◌}
+use Rattle.std.proofs.Common.{Option, None, Some, vec_items, refl, ◌∙◌}
+use Rattle.std.specs.Option.{IsSome, IfNone}
 use Rattle.std.proofs.lemmas.Result.{err_from_is_err_and}
 use Rattle.layout.specs.Tables.{document}
 use Rattle.layout.proofs.Making.{nodes_rise, entries_rise}
@@ -12,13 +13,17 @@ returns-in_err-nodes c =
     let p = err_from_is_err_and c.from_residual.result c.from_residual.ensures.1 in
     record { typed = c.note_source.ensures; law = made t (document t) refl; nodes = rw p.1 tt; entries = rw p.1 tt }
 
-pub unreachable-requires : goal.unreachable-requires
-unreachable-requires c =
+-- where it is wrong that nothing is there, something is
+there : {X : Type 0} {P : Type 0} (o : Option X) → IfNone o P → (P → ⊥) → IsSome o
+there None p wrong = absurd (wrong p)
+there (Some x) p wrong = refl
+
+pub unwrap-requires : goal.unwrap-requires
+unwrap-requires c =
     let t = tables_in c.args.source in
     let typed = c.note_source.ensures in
-    c.in-None.ensures.none
-    (nodes_rise t typed (vec_items c.in_ok-nodes.nodes) c.in_ok-nodes.ensures.nodes)
-    (entries_rise t typed (vec_items c.in_ok-nodes.entries) c.in_ok-nodes.ensures.entries)
+    let told = c.in_ok-nodes.ensures in
+    there c.new.result c.new.ensures.none (λ rise. rise (nodes_rise t typed (vec_items c.in_ok-nodes.nodes) told.nodes) (entries_rise t typed (vec_items c.in_ok-nodes.entries) told.entries))
 
 pub returns : goal.returns
 returns c =
@@ -26,6 +31,6 @@ returns c =
     record {
       typed = c.note_source.ensures;
       law = made t (document t) refl;
-      nodes = ∣ c.in-Some.ensures.nodes ∙ c.in_ok-nodes.ensures.nodes ∣₁;
-      entries = ∣ c.in-Some.ensures.entries ∙ c.in_ok-nodes.ensures.entries ∣₁;
+      nodes = ∣ (rw c.unwrap.ensures at c.new.ensures.nodes) ∙ c.in_ok-nodes.ensures.nodes ∣₁;
+      entries = ∣ (rw c.unwrap.ensures at c.new.ensures.entries) ∙ c.in_ok-nodes.ensures.entries ∣₁;
     }

@@ -1,30 +1,26 @@
-use Rattle.std.proofs.Common.{◌≡◌, false, is_ok, vec_items, sym, ap, ◌∙◌, arith}
-use Rattle.layout.specs.Tables.{checked}
-use Rattle.layout.proofs.Making.{Ready, ready, linked_nodes, linked_entries, empty_nodes, empty_entries}
+use Rattle.std.proofs.Common.{vec_items, ap, ◌∙◌}
+use Rattle.index.specs.Links.{links_of, entry_links_of}
+use Rattle.layout.specs.Tables.{document}
+use Rattle.layout.proofs.Making.{ready, linked_nodes, linked_entries, empty_nodes, empty_entries}
 use Rattle.table_check.specs.Given.{given as tables_in}
 use Rattle.table_links.proofs.links.link_all.Goals as goal
 
-pub returns-then-is_err : goal.returns-then-is_err
-returns-then-is_err c =
+pub returns-in-None : goal.returns-in-None
+returns-in-None c =
     let t = tables_in c.args.source in
-    let no : is_ok (checked t) ≡ false = sym (ap is_ok c.check.ensures.answer) ∙ c.if-is_err.ensures.negation in
-    record { nodes = empty_nodes t no (vec_items c.new-nodes.result) c.new-nodes.ensures.items; entries = empty_entries t no (vec_items c.new-entries.result) c.new-entries.ensures.items }
-
-pub link_nodes-requires : goal.link_nodes-requires
-link_nodes-requires c =
-    let r : Ready (tables_in c.args.source) = ready (tables_in c.args.source) (sym (ap is_ok c.check.ensures.answer) ∙ c.if-is_err.ensures.negation) in
-    record { whole = r.whole; within = omega arith; few = r.few_nodes; room = r.few_entries }
-
-pub link_entries-requires : goal.link_entries-requires
-link_entries-requires c =
-    let r : Ready (tables_in c.args.source) = ready (tables_in c.args.source) (sym (ap is_ok c.check.ensures.answer) ∙ c.if-is_err.ensures.negation) in
-    record { rooms = r.rooms; few = r.few_entries; numbers = r.few_nodes }
-
-pub returns : goal.returns
-returns c =
-    let t = tables_in c.args.source in
-    let r : Ready t = ready t (sym (ap is_ok c.check.ensures.answer) ∙ c.if-is_err.ensures.negation) in
     record {
-      nodes = linked_nodes t r (vec_items c.new-nodes.result) _ c.new-nodes.ensures.items c.in_ok-link_nodes.ensures;
-      entries = linked_entries t r (vec_items c.new-entries.result) _ c.new-entries.ensures.items c.in_ok-link_entries.ensures;
+      nodes = empty_nodes t c.in-None.ensures (vec_items c.new-nodes.result) c.new-nodes.ensures.items;
+      entries = empty_entries t c.in-None.ensures (vec_items c.new-entries.result) c.new-entries.ensures.items;
+    }
+
+pub link_nodes-requires-clause-whole : goal.link_nodes-requires-clause-whole
+link_nodes-requires-clause-whole c = (ready (tables_in c.in-Some.tables.source) c.in-Some.tables.accepted).whole
+
+pub returns-in_ok-link_entries-in-Some : goal.returns-in_ok-link_entries-in-Some
+returns-in_ok-link_entries-in-Some c =
+    let t = tables_in c.in-Some.tables.source in
+    let r = ready t c.in-Some.tables.accepted in
+    record {
+      nodes = linked_nodes t r (vec_items c.new-nodes.result) _ c.new-nodes.ensures.items c.in_ok-link_nodes-in-Some.ensures ∙ ap (λ s. links_of (document (tables_in s))) c.in-Some.ensures;
+      entries = linked_entries t r (vec_items c.new-entries.result) _ c.new-entries.ensures.items c.in_ok-link_entries-in-Some.ensures ∙ ap (λ s. entry_links_of (document (tables_in s))) c.in-Some.ensures;
     }

@@ -1,0 +1,4 @@
+#![tactic(auto)]
+
+pub mod linked;
+pub mod parts;
