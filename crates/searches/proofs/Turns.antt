@@ -1,5 +1,5 @@
 -- One turn of each search by a name. Assumes nothing.
-use Rattle.std.proofs.Common.{◌≡◌, ℕ, suc, ◌<◌, ◌≤◌, Bool, true, false, cond, ◌||◌, List, [], ◌∷◌, length, Some, None, Option, sym, refl, ap, ◌∙◌, subst, arith}
+use Rattle.std.proofs.Common.{◌≡◌, ℕ, suc, ◌<◌, ◌≤◌, Bool, true, false, cond, ◌||◌, List, [], ◌∷◌, length, Some, None, Option, is_some, sym, refl, ap, ◌∙◌, subst, arith}
 use Rattle.std.specs.Str.{bytes_eq}
 use Rattle.tree.specs.declared.handle.NodeHandle.{NodeHandle}
 use Rattle.tree.specs.declared.handle.EntryHandle.{EntryHandle}
@@ -63,11 +63,10 @@ module _ (d : Nodes) where
   called_from m start at None e n = e ∙ n
   called_from m start at (Some h) e n = (n.0, n.1, e ∙ n.2)
 
-  pub child_there : (m : List ℕ) (start : Option NodeHandle) (h : NodeHandle) → NextCalled d m start (Some h) → true ≡ is_child (row d start) m
-  child_there m start h n = sym (child_some m (row d start) ∙ ap some_of n.2)
-
-  pub child_absent : (m : List ℕ) (start : Option NodeHandle) → NextCalled d m start None → false ≡ is_child (row d start) m
-  child_absent m start n = sym (child_some m (row d start) ∙ ap some_of n)
+  -- one has the name just where the next one is there
+  pub child_told : (m : List ℕ) (start r : Option NodeHandle) → NextCalled d m start r → is_some r ≡ is_child (row d start) m
+  child_told m start None n = sym (child_some m (row d start) ∙ ap some_of n)
+  child_told m start (Some h) n = sym (child_some m (row d start) ∙ ap some_of n.2)
 
   pub property_found : (m : List ℕ) (at : Option EntryHandle) (e : EntryHandle) → at ≡ Some e → is_named (found_entry d e) m ≡ true → is_property (properties_in (entry_row d at)) m ≡ true
   property_found m at e is alike = ap (λ o. is_property (properties_in (entry_row d o)) m) is ∙ go (found_entry d e) alike

@@ -9,7 +9,6 @@ ghost use Rattle.lists.specs.Properties.{is_property};
 ghost use Rattle.lists.specs.Groups.{is_child};
 ghost use Rattle.searches.specs.Searches.{is_called, is_named, first_of_siblings, NextCalled, NextGroup};
 
-use forms::compare::same;
 use tree::handle::{EntryHandle, NodeHandle};
 use tree::interface::Tree;
 
@@ -17,20 +16,14 @@ use tree::interface::Tree;
 pub fn is_called<T: Tree>(tree: &T, node: NodeHandle, name: &[u8]) -> bool
     ensures { result ≡ is_called (found (T.Tree.meaning tree.now) node) name.now }
 {
-    match tree.name(node) {
-        Some(own) => same(own.bytes, name),
-        None => false,
-    }
+    tree.name(node).is_some_and(|own| own.bytes == name)
 }
 
 // Whether the entry is a property with the name.
 pub fn is_named<T: Tree>(tree: &T, entry: EntryHandle, name: &[u8]) -> bool
     ensures { result ≡ is_named (found_entry (T.Tree.meaning tree.now) entry) name.now }
 {
-    match tree.entry_name(entry) {
-        Some(own) => same(own.bytes, name),
-        None => false,
-    }
+    tree.entry_name(entry).is_some_and(|own| own.bytes == name)
 }
 
 // The next node from `start` on that has the name.
@@ -51,10 +44,7 @@ pub fn next_called<T: Tree>(tree: &T, start: Option<NodeHandle>, name: &[u8]) ->
 pub fn has_called<T: Tree>(tree: &T, start: Option<NodeHandle>, name: &[u8]) -> bool
     ensures { result ≡ is_child (row (T.Tree.meaning tree.now) start) name.now }
 {
-    match next_called(tree, start, name) {
-        Some(_) => true,
-        None => false,
-    }
+    next_called(tree, start, name).is_some()
 }
 
 // Whether an entry from `start` on is a property with the name.
@@ -75,10 +65,7 @@ pub fn has_property<T: Tree>(tree: &T, start: Option<EntryHandle>, name: &[u8]) 
 pub fn first_child<T: Tree>(tree: &T, node: NodeHandle) -> Option<NodeHandle>
     ensures { result ≡ first (inner (T.Tree.meaning tree.now) node) }
 {
-    match tree.block(node) {
-        Some(first) => first,
-        None => None,
-    }
+    tree.block(node).flatten()
 }
 
 // The first of the nodes that stand with the node; none where there is no such node.
@@ -87,10 +74,10 @@ pub fn first_sibling<T: Tree>(tree: &T, node: NodeHandle) -> Option<NodeHandle>
 {
     match tree.parent(node) {
         Some(holder) => first_child(tree, holder),
-        None => match tree.node_span(node) {
-            Some(_) => tree.first_node(),
-            None => None,
-        },
+        None => {
+            tree.node_span(node)?;
+            tree.first_node()
+        }
     }
 }
 
