@@ -9,6 +9,9 @@ ghost use Rattle.lists.specs.Properties.{is_property};
 ghost use Rattle.lists.specs.Groups.{is_child};
 ghost use Rattle.searches.specs.Searches.{is_called, is_named, first_of_siblings, NextCalled, NextGroup};
 
+mod row;
+
+use row::{any_named, find_named, has_name};
 use tree::handle::{EntryHandle, NodeHandle};
 use tree::interface::Tree;
 
@@ -16,49 +19,35 @@ use tree::interface::Tree;
 pub fn is_called<T: Tree>(tree: &T, node: NodeHandle, name: &[u8]) -> bool
     ensures { result ≡ is_called (found (T.Tree.meaning tree.now) node) name.now }
 {
-    tree.name(node).is_some_and(|own| own.bytes == name)
+    has_name(tree, node, name)
 }
 
 // Whether the entry is a property with the name.
 pub fn is_named<T: Tree>(tree: &T, entry: EntryHandle, name: &[u8]) -> bool
     ensures { result ≡ is_named (found_entry (T.Tree.meaning tree.now) entry) name.now }
 {
-    tree.entry_name(entry).is_some_and(|own| own.bytes == name)
+    has_name(tree, entry, name)
 }
 
 // The next node from `start` on that has the name.
 pub fn next_called<T: Tree>(tree: &T, start: Option<NodeHandle>, name: &[u8]) -> Option<NodeHandle>
     ensures { NextCalled (T.Tree.meaning tree.now) name.now start result }
 {
-    let mut at = start;
-    while let Some(h) = at {
-        if is_called(tree, h, name) {
-            return Some(h);
-        }
-        at = tree.next_sibling(h);
-    }
-    None
+    find_named(tree, start, name)
 }
 
 // Whether a node from `start` on has the name.
 pub fn has_called<T: Tree>(tree: &T, start: Option<NodeHandle>, name: &[u8]) -> bool
     ensures { result ≡ is_child (row (T.Tree.meaning tree.now) start) name.now }
 {
-    next_called(tree, start, name).is_some()
+    any_named(tree, start, name)
 }
 
-// Whether an entry from `start` on is a property with the name.
-pub fn has_property<T: Tree>(tree: &T, start: Option<EntryHandle>, name: &[u8]) -> bool
-    ensures { result ≡ is_property (properties_in (entry_row (T.Tree.meaning tree.now) start)) name.now }
+// Whether an entry from `entry` on is a property with the name.
+pub fn has_property<T: Tree>(tree: &T, entry: Option<EntryHandle>, name: &[u8]) -> bool
+    ensures { result ≡ is_property (properties_in (entry_row (T.Tree.meaning tree.now) entry)) name.now }
 {
-    let mut at = start;
-    while let Some(e) = at {
-        if is_named(tree, e, name) {
-            return true;
-        }
-        at = tree.next_entry(e);
-    }
-    false
+    any_named(tree, entry, name)
 }
 
 // The first node of the block; none without a block.
