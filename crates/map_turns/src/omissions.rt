@@ -30,15 +30,9 @@ impl<T: Tree, F: Forms> NodeMap<'_, T, F> {
     fn is_unmet(&self, name: &[u8]) -> bool
         ensures { (s : Spot) → found (T.Tree.meaning self.now.tree.now) self.now.node ≡ Given s → result ≡ unmet s.self name.now }
     {
-        if !is_plain(name) {
-            return false;
-        }
-        let entry = self.tree.first_entry(self.node);
-        if has_property(self.tree, entry, name) {
-            return false;
-        }
-        let child = first_child(self.tree, self.node);
-        !has_called(self.tree, child, name)
+        is_plain(name)
+            && !has_property(self.tree, self.tree.first_entry(self.node), name)
+            && !has_called(self.tree, first_child(self.tree, self.node), name)
     }
 
     // The name at a position of the form.

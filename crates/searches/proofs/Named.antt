@@ -8,13 +8,11 @@ use Rattle.tree.specs.Document.{Ident, Entry, Node, Nodes, handle_in, head_in, p
 use Rattle.tree.specs.Going.{Spot, EntrySpot, found, found_entry, then, first, first_of, name, entry_name}
 use Rattle.tree.specs.Limits.{Lawful}
 use Rattle.spots.specs.Rows.{row, row_of, nodes_from, entry_row, entry_row_of, entries_from}
+use Rattle.spots.proofs.Finding.{nil_cons}
 use Rattle.spots.proofs.Rows.{row_next, entry_row_next}
 use Rattle.lists.specs.Properties.{is_property}
 use Rattle.lists.specs.Groups.{called, is_child, those_called}
 use Rattle.searches.specs.Searches.{is_called, ident_is, is_named, NextCalled}
-
-nil_cons : {X Y : Type 0} (x : X) (xs : List X) → ◌≡◌ {A = List X} [] (x ∷ xs) → Y
-nil_cons x xs e = absurd (let z : ◌≡◌ {A = ℕ} 0 1 = cc in omega arith)
 
 property_head : (m : List ℕ) (x : Entry) (es : List Entry) → is_property (properties_in (x ∷ es)) m ≡ (ident_is x.name m || is_property (properties_in es) m)
 property_head m x es = go x.name
