@@ -24,11 +24,9 @@ fn show_member<F: Forms>(rt: &HostRuntime, forms: &F, form: u32, key: Spelled) -
 
 // Prints the numbers of the forms that have the key; the numbers past the end are asked too.
 fn show_members<F: Forms>(rt: &HostRuntime, forms: &F, key: Spelled) -> io::Result<()> {
-    let count = forms.count();
-    for form in 0..count {
+    for form in 0..=forms.count() {
         show_member(rt, forms, form, key)?;
     }
-    show_member(rt, forms, count, key)?;
     show_member(rt, forms, u32::MAX, key)
 }
 
@@ -46,10 +44,9 @@ fn show_key<F: Forms>(rt: &HostRuntime, forms: &F, what: &str, key: Spelled) -> 
     print!(rt; "; fixed in")?;
     show_members(rt, &FixedForms, key)?;
     print!(rt; ", at")?;
-    show_position(rt, 0, key)?;
-    show_position(rt, 1, key)?;
-    show_position(rt, 2, key)?;
-    show_position(rt, u32::MAX, key)?;
+    for form in [0, 1, 2, u32::MAX] {
+        show_position(rt, form, key)?;
+    }
     println!(rt; "")
 }
 
