@@ -1,4 +1,4 @@
-// Nodes that stand one after another, and entries: a search by a name is the same in both.
+// Nodes that stand one after another, and the entries of a node: a search by a name is the same in both.
 ghost use Rattle.std.specs.Prelude.{◌≡◌, [], ◌∷◌, List, Option, None, Some as Given, find, refl};
 ghost use Rattle.std.specs.Option.{option_map};
 ghost use Rattle.std.specs.List.{list_any};
@@ -15,7 +15,7 @@ use tree::handle::{EntryHandle, NodeHandle};
 use tree::interface::Tree;
 use tree::span::Identifier;
 
-// A handle of a tree whose things stand in rows and may have names.
+// A handle of nodes, or of entries: the name of what it stands for, and the handle of what stands next.
 pub(crate) trait Handle: Copy {
     ghost name: { Nodes → Self → Option Ident };
 
