@@ -37,27 +37,16 @@ impl Forms for FixedForms {
     }
 
     fn name(&self, form: u32, position: u32) -> Option<&[u8]> {
-        let names = names(form);
-        let at = position as usize;
-        if at < names.len() {
-            Some(names[at])
-        } else {
-            None
-        }
+        names(form).get(position as usize).copied()
     }
 }
 
 impl FixedForms {
-    // The first position of a form whose name is what the key spells with the part.
-    pub fn position(self, form: u32, key: Spelled, part: &[u8]) -> Option<u32>
-        ensures { result ≡ position_of (form_of fixed_forms form) (spelled (key_of key part.now)) }
+    // The first position of a form whose name is what the key spells.
+    pub fn position(self, form: u32, key: Spelled) -> Option<u32>
+        ensures { result ≡ position_of (form_of fixed_forms form) (spelled (key_of key.entry)) }
     {
-        let names = names(form);
-        for (i, name) in names.iter().enumerate() {
-            if spells(key, part, name) {
-                return Some(i as u32);
-            }
-        }
-        None
+        let position = names(form).iter().position(|name| spells(key, name))?;
+        Some(position as u32)
     }
 }

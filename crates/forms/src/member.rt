@@ -8,16 +8,18 @@ use super::compare::spells;
 use super::interface::Forms;
 use super::key::Spelled;
 
-// The key is compared with each name of the form, and written nowhere. A number that no form has is a form without names.
-pub fn has_key<F: Forms>(forms: &F, form: u32, key: Spelled, part: &[u8]) -> bool
-    ensures { result ≡ has (form_of (F.Forms.meaning forms.now) form) (spelled (key_of key part.now)) }
+// The key is compared with each name of the form, and written nowhere. A number that no form has is a form without names; no form has more than
+// 65,535.
+pub fn has_key<F: Forms>(forms: &F, form: u32, key: Spelled) -> bool
+    ensures { result ≡ has (form_of (F.Forms.meaning forms.now) form) (spelled (key_of key.entry)) }
 {
-    let mut position = 0u32;
-    while let Some(name) = forms.name(form, position) {
-        if spells(key, part, name) {
+    for position in 0..65_535 {
+        let Some(name) = forms.name(form, position) else {
+            return false;
+        };
+        if spells(key, name) {
             return true;
         }
-        position += 1;
     }
     false
 }

@@ -15,68 +15,44 @@ use std::io;
 use std::io::{BufRead, BufReader};
 
 // Prints the number of a form where it has the key.
-fn show_member<F: Forms>(
-    rt: &HostRuntime,
-    forms: &F,
-    form: u32,
-    key: Spelled,
-    part: &[u8],
-) -> io::Result<()> {
-    if has_key(forms, form, key, part) {
+fn show_member<F: Forms>(rt: &HostRuntime, forms: &F, form: u32, key: Spelled) -> io::Result<()> {
+    if has_key(forms, form, key) {
         print!(rt; " {form}")?;
     }
     Ok(())
 }
 
 // Prints the numbers of the forms that have the key; the numbers past the end are asked too.
-fn show_members<F: Forms>(
-    rt: &HostRuntime,
-    forms: &F,
-    key: Spelled,
-    part: &[u8],
-) -> io::Result<()> {
-    let count = forms.count();
-    for form in 0..count {
-        show_member(rt, forms, form, key, part)?;
+fn show_members<F: Forms>(rt: &HostRuntime, forms: &F, key: Spelled) -> io::Result<()> {
+    for form in 0..=forms.count() {
+        show_member(rt, forms, form, key)?;
     }
-    show_member(rt, forms, count, key, part)?;
-    show_member(rt, forms, u32::MAX, key, part)
+    show_member(rt, forms, u32::MAX, key)
 }
 
 // Prints the position of the key in a form of the fixed set.
-fn show_position(rt: &HostRuntime, form: u32, key: Spelled, part: &[u8]) -> io::Result<()> {
-    match FixedForms.position(form, key, part) {
+fn show_position(rt: &HostRuntime, form: u32, key: Spelled) -> io::Result<()> {
+    match FixedForms.position(form, key) {
         None => print!(rt; " -"),
         Some(position) => print!(rt; " {position}"),
     }
 }
 
-fn show_key<F: Forms>(
-    rt: &HostRuntime,
-    forms: &F,
-    what: &str,
-    key: Spelled,
-    part: &[u8],
-) -> io::Result<()> {
+fn show_key<F: Forms>(rt: &HostRuntime, forms: &F, what: &str, key: Spelled) -> io::Result<()> {
     print!(rt; "{what}: in")?;
-    show_members(rt, forms, key, part)?;
+    show_members(rt, forms, key)?;
     print!(rt; "; fixed in")?;
-    show_members(rt, &FixedForms, key, part)?;
+    show_members(rt, &FixedForms, key)?;
     print!(rt; ", at")?;
-    show_position(rt, 0, key, part)?;
-    show_position(rt, 1, key, part)?;
-    show_position(rt, 2, key, part)?;
-    show_position(rt, u32::MAX, key, part)?;
+    for form in [0, 1, 2, u32::MAX] {
+        show_position(rt, form, key)?;
+    }
     println!(rt; "")
 }
 
-fn show_keys<F: Forms>(
-    rt: &HostRuntime,
-    forms: &F,
-    keys: &[(&str, Spelled, &[u8])],
-) -> io::Result<()> {
-    for (what, key, part) in keys {
-        show_key(rt, forms, what, *key, part)?;
+fn show_keys<F: Forms>(rt: &HostRuntime, forms: &F, keys: &[(&str, Spelled)]) -> io::Result<()> {
+    for (what, key) in keys {
+        show_key(rt, forms, what, *key)?;
     }
     Ok(())
 }

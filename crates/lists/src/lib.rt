@@ -6,23 +6,17 @@ ghost use Rattle.lists.specs.Placement.{Placement, KeysTold};
 ghost use Rattle.lists.specs.Stages.{Stages};
 
 // The groups of nodes are the nodes parted by their names, and the properties in force are the last of each name.
-pub fn partition_holds() -> u8
+pub fn partition_holds()
     ensures { Partition }
-{
-    0
-}
+{}
 
 // What stands under each key of the list of a node asked as a struct or as a map, and of a document.
-pub fn placement_holds() -> u8
+pub fn placement_holds()
     ensures placement { Placement }
     ensures keys { KeysTold }
-{
-    0
-}
+{}
 
 // Each of these lists, one stage after another.
-pub fn stages_hold() -> u8
+pub fn stages_hold()
     ensures { Stages }
-{
-    0
-}
+{}

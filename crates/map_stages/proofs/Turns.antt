@@ -91,15 +91,12 @@ module _ (d : Nodes) (law : Lawful d) (fs : List Form) (h : NodeHandle) (form : 
   pub rest_unasked : (at : Option EntryHandle) → at ≡ first_entry d h → form ≡ None → Moves d fs h form stage.Rest (Pass (stage.AtProperty at))
   rest_unasked at a none = rest_passed at a (ap (λ o. has (form_in fs o) (spelled rest)) (sym none))
 
-  pub rest_given : (at : Option EntryHandle) (i : ℕ) (x : Item) → at ≡ first_entry d h → form ≡ Some i → true ≡ has (form_of fs i) (spelled rest)
+  pub rest_given : (at : Option EntryHandle) (i : ℕ) (x : Item) → at ≡ first_entry d h → form ≡ Some i → true ≡ has f (spelled rest)
       → x ≡ record { key = record { kind = kind.Rest; number = 0; part = part.Nothing }; place = place.Rest h i } → Moves d fs h form stage.Rest (Give x (stage.AtProperty at))
   rest_given at i x a some b q =
       moved _ _ _ (ap (λ o. Give x (stage.AtProperty o)) (a ∙ first_is))
-      (asked_given d law fs h form s is _ _ x rest (arg_list (unasked f (arguments n))) (step_rest d law fs h form s is) (b ∙ ap (λ o. has (form_in fs o) (spelled rest)) (sym some))
+      (asked_given d law fs h form s is _ _ x rest (arg_list (unasked f (arguments n))) (step_rest d law fs h form s is) b
       (ap (item_meant d fs) q ∙ ap (item rest) (ap (λ o. at_spot o (λ (z : Spot). arg_list (unasked (form_of fs i) (arguments z.self)))) is ∙ ap (λ o. arg_list (unasked (form_in fs o) (arguments n))) (sym some))))
-
-  pub rest_refused : (at : Option EntryHandle) (i : ℕ) → at ≡ first_entry d h → form ≡ Some i → false ≡ has (form_of fs i) (spelled rest) → Moves d fs h form stage.Rest (Pass (stage.AtProperty at))
-  rest_refused at i a some b = rest_passed at a (b ∙ ap (λ o. has (form_in fs o) (spelled rest)) (sym some))
 
   -- arguments
   pub arguments_none : (at : Option EntryHandle) (i : ℕ) → at ≡ None → Moves d fs h form (stage.ArgumentType at i) (Pass stage.Args)

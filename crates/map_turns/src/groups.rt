@@ -9,9 +9,11 @@ ghost use Rattle.map_stages.proofs.Groups.{group_at};
 ghost use Rattle.map_stages.specs.declared.access.Stage.TheVariants as stage;
 ghost use Rattle.map_turns.specs.Given.{Gives};
 
+use super::items::item;
+use super::node_map::NodeMap;
 use forms::interface::Forms;
 use map_stages::access::{Stage, Turn};
-use places::item::{Item, Key, KeyKind, Part};
+use places::item::{Item, KeyKind, Part};
 use places::place::Place;
 use searches::{next_called, next_group};
 use tree::handle::NodeHandle;
@@ -21,15 +23,12 @@ use tree::interface::Tree;
 fn group_place<T: Tree>(tree: &T, first: NodeHandle) -> Place
     ensures { (fs : List Form) (g : Spot) → found (T.Tree.meaning tree.now) first ≡ Given g → meant (T.Tree.meaning tree.now) fs result ≡ together g.self (those_called (called g.self) g.after) }
 {
-    match tree.name(first) {
+    let Some(name) = tree.name(first) else {
+        return Place::Node(first);
+    };
+    match next_called(tree, tree.next_sibling(first), name.bytes) {
         None => Place::Node(first),
-        Some(name) => {
-            let next = tree.next_sibling(first);
-            match next_called(tree, next, name.bytes) {
-                None => Place::Node(first),
-                Some(_) => Place::Group(first),
-            }
-        }
+        Some(_) => Place::Group(first),
     }
 }
 
@@ -37,31 +36,19 @@ fn group_place<T: Tree>(tree: &T, first: NodeHandle) -> Place
 pub fn group_item<T: Tree>(tree: &T, first: NodeHandle) -> Item
     ensures { (fs : List Form) (g : Spot) → found (T.Tree.meaning tree.now) first ≡ Given g → item_meant (T.Tree.meaning tree.now) fs result ≡ group_item (group_at g) }
 {
-    Item {
-        key: Key {
-            kind: KeyKind::Group,
-            number: 0,
-            part: Part::Node(first),
-        },
-        place: group_place(tree, first),
-    }
+    let place = group_place(tree, first);
+    item(KeyKind::Group, 0, Part::Node(first), place)
 }
 
-// The next group from `at` on.
-pub fn groups_turn<T: Tree, F: Forms>(
-    tree: &T,
-    forms: &F,
-    node: NodeHandle,
-    form: Option<u32>,
-    at: Option<NodeHandle>,
-) -> Turn
-    ensures { Gives (T.Tree.meaning tree.now) (F.Forms.meaning forms.now) node form (stage.Groups at) result }
-{
-    match next_group(tree, at) {
-        None => Turn::Pass(Stage::Omissions(0)),
-        Some(first) => {
-            let item = group_item(tree, first);
-            Turn::Give(item, Stage::Groups(tree.next_sibling(first)))
-        }
+impl<T: Tree, F: Forms> NodeMap<'_, T, F> {
+    // The next group from `at` on.
+    pub fn groups_turn(&self, at: Option<NodeHandle>) -> Turn
+        ensures { Gives (T.Tree.meaning self.now.tree.now) (F.Forms.meaning self.now.forms.now) self.now.node self.now.form (stage.Groups at) result }
+    {
+        let Some(first) = next_group(self.tree, at) else {
+            return Turn::Pass(Stage::Omissions(0));
+        };
+        let group = group_item(self.tree, first);
+        Turn::Give(group, Stage::Groups(self.tree.next_sibling(first)))
     }
 }

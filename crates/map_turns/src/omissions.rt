@@ -6,12 +6,13 @@ ghost use Rattle.tree.specs.Going.{Spot, found};
 ghost use Rattle.forms.specs.Keys.{plain};
 ghost use Rattle.lists.specs.Lists.{unmet};
 
+use super::items::item;
+use super::node_map::NodeMap;
 use forms::interface::Forms;
 use map_stages::access::{Stage, Turn};
-use places::item::{Item, Key, KeyKind, Part};
+use places::item::{KeyKind, Part};
 use places::place::Place;
 use searches::{first_child, has_called, has_property};
-use tree::handle::NodeHandle;
 use tree::interface::Tree;
 
 // Whether a name does not begin with '#'.
@@ -24,51 +25,36 @@ fn is_plain(name: &[u8]) -> bool
     }
 }
 
-// Whether a name is plain and names no property and no child of the node.
-fn is_unmet<T: Tree>(tree: &T, node: NodeHandle, name: &[u8]) -> bool
-    ensures { (s : Spot) → found (T.Tree.meaning tree.now) node ≡ Given s → result ≡ unmet s.self name.now }
-{
-    if !is_plain(name) {
-        return false;
+impl<T: Tree, F: Forms> NodeMap<'_, T, F> {
+    // Whether a name is plain and names no property and no child of the node.
+    fn is_unmet(&self, name: &[u8]) -> bool
+        ensures { (s : Spot) → found (T.Tree.meaning self.now.tree.now) self.now.node ≡ Given s → result ≡ unmet s.self name.now }
+    {
+        is_plain(name)
+            && !has_property(self.tree, self.tree.first_entry(self.node), name)
+            && !has_called(self.tree, first_child(self.tree, self.node), name)
     }
-    let entry = tree.first_entry(node);
-    if has_property(tree, entry, name) {
-        return false;
-    }
-    let child = first_child(tree, node);
-    !has_called(tree, child, name)
-}
 
-// The name at a position of the form.
-pub fn omission_turn<T: Tree, F: Forms>(
-    tree: &T,
-    forms: &F,
-    node: NodeHandle,
-    form: Option<u32>,
-    position: u32,
-) -> Turn
-    ensures { Gives (T.Tree.meaning tree.now) (F.Forms.meaning forms.now) node form (stage.Omissions position) result }
-{
-    match form {
-        None => Turn::End,
-        Some(i) => match forms.name(i, position) {
-            None => Turn::End,
-            Some(name) => {
-                let next = Stage::Omissions(position + 1);
-                if is_unmet(tree, node, name) {
-                    let item = Item {
-                        key: Key {
-                            kind: KeyKind::Omission,
-                            number: position,
-                            part: Part::Form(i, position),
-                        },
-                        place: Place::Omission,
-                    };
-                    Turn::Give(item, next)
-                } else {
-                    Turn::Pass(next)
-                }
-            }
-        },
+    // The name at a position of the form.
+    pub fn omission_turn(&self, position: u32) -> Turn
+        ensures { Gives (T.Tree.meaning self.now.tree.now) (F.Forms.meaning self.now.forms.now) self.now.node self.now.form (stage.Omissions position) result }
+    {
+        let Some(form) = self.form else {
+            return Turn::End;
+        };
+        let Some(name) = self.forms.name(form, position) else {
+            return Turn::End;
+        };
+        let next = Stage::Omissions(position + 1);
+        if !self.is_unmet(name) {
+            return Turn::Pass(next);
+        }
+        let omitted = item(
+            KeyKind::Omission,
+            position,
+            Part::Form(form, position),
+            Place::Omission,
+        );
+        Turn::Give(omitted, next)
     }
 }

@@ -15,12 +15,8 @@ use tree::interface::Tree;
 pub fn next_node_group<T: Tree>(access: &mut DocumentMapAccess, tree: &T) -> Option<Item>
     ensures { (fs : List Form) → Hands (item_meant (T.Tree.meaning tree.now) fs) (document_coming (T.Tree.meaning tree.now) access.old) result (document_coming (T.Tree.meaning tree.now) access.new) }
 {
-    match next_group(tree, access.at) {
-        None => None,
-        Some(first) => {
-            let item = group_item(tree, first);
-            access.at = tree.next_sibling(first);
-            Some(item)
-        }
-    }
+    let first = next_group(tree, access.at)?;
+    let item = group_item(tree, first);
+    access.at = tree.next_sibling(first);
+    Some(item)
 }

@@ -7,42 +7,29 @@ ghost use Rattle.maps.specs.Hands.{Hands};
 
 use forms::interface::Forms;
 use map_stages::access::{NodeMapAccess, Stage, Turn};
-use map_turns::arguments::{argument_turn, argument_type_turn};
-use map_turns::groups::groups_turn;
-use map_turns::omissions::omission_turn;
-use map_turns::properties::{at_property_turn, property_turn, property_type_turn};
-use map_turns::title::{args_turn, name_turn, rest_turn, type_turn};
+use map_turns::node_map::NodeMap;
 use places::item::Item;
-use tree::handle::NodeHandle;
 use tree::interface::Tree;
 
 // One stage; the end where the handle is no node's.
-fn turn<T: Tree, F: Forms>(
-    tree: &T,
-    forms: &F,
-    node: NodeHandle,
-    form: Option<u32>,
-    stage: Stage,
-) -> Turn
-    ensures { Moves (T.Tree.meaning tree.now) (F.Forms.meaning forms.now) node form stage result }
+fn turn<T: Tree, F: Forms>(map: &NodeMap<'_, T, F>, stage: Stage) -> Turn
+    ensures { Moves (T.Tree.meaning map.now.tree.now) (F.Forms.meaning map.now.forms.now) map.now.node map.now.form stage result }
 {
-    let Some(_) = tree.node_span(node) else {
+    let Some(_) = map.tree.node_span(map.node) else {
         return Turn::End;
     };
     match stage {
-        Stage::Name => name_turn(tree, forms, node, form),
-        Stage::Type => type_turn(tree, forms, node, form),
-        Stage::ArgumentType(at, number) => {
-            argument_type_turn(tree, forms, node, form, at, number)
-        }
-        Stage::Argument(e, number) => argument_turn(tree, forms, node, form, e, number),
-        Stage::Args => args_turn(tree, forms, node, form),
-        Stage::Rest => rest_turn(tree, forms, node, form),
-        Stage::AtProperty(at) => at_property_turn(tree, forms, node, form, at),
-        Stage::PropertyType(e) => property_type_turn(tree, forms, node, form, e),
-        Stage::Property(e) => property_turn(tree, forms, node, form, e),
-        Stage::Groups(at) => groups_turn(tree, forms, node, form, at),
-        Stage::Omissions(position) => omission_turn(tree, forms, node, form, position),
+        Stage::Name => map.name_turn(),
+        Stage::Type => map.type_turn(),
+        Stage::ArgumentType(at, number) => map.argument_type_turn(at, number),
+        Stage::Argument(e, number) => map.argument_turn(e, number),
+        Stage::Args => map.args_turn(),
+        Stage::Rest => map.rest_turn(),
+        Stage::AtProperty(at) => map.at_property_turn(at),
+        Stage::PropertyType(e) => map.property_type_turn(e),
+        Stage::Property(e) => map.property_turn(e),
+        Stage::Groups(at) => map.groups_turn(at),
+        Stage::Omissions(position) => map.omission_turn(position),
     }
 }
 
@@ -52,11 +39,15 @@ pub fn next_item<T: Tree, F: Forms>(access: &mut NodeMapAccess, tree: &T, forms:
     ensures node { access.new.node ≡ access.old.node }
     ensures form { access.new.form ≡ access.old.form }
 {
-    let node = access.node;
-    let form = access.form;
+    let map = NodeMap {
+        tree,
+        forms,
+        node: access.node,
+        form: access.form,
+    };
     let mut stage = access.stage;
     loop {
-        match turn(tree, forms, node, form, stage) {
+        match turn(&map, stage) {
             Turn::End => return None,
             Turn::Pass(next) => stage = next,
             Turn::Give(item, next) => {

@@ -1,7 +1,9 @@
 // What an error at an answer says of the answer: a label, and the span of what was asked.
-ghost use Rattle.std.specs.Prelude.{◌≡◌};
+ghost use Rattle.std.specs.Prelude.{◌≡◌, Some};
 ghost use Rattle.replies.specs.Marks.{label_text};
 
+use std::fmt;
+use std::fmt::Display;
 use tree::span::Span;
 
 #[derive(Clone, Copy, PartialEq, Eq, Debug)]
@@ -30,5 +32,13 @@ impl Label {
             Label::Node => "while deserializing this KDL node",
             Label::Property => "while deserializing this KDL property",
         }
+    }
+}
+
+impl Display for Label {
+    ghost output = { λ l. Some (label_text l) };
+
+    fn fmt<W: fmt::Write>(&self, f: &mut fmt::Formatter<W>) -> fmt::Result {
+        f.write_str(self.text())
     }
 }

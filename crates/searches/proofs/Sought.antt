@@ -6,7 +6,7 @@ use Rattle.tree.specs.Document.{Ident, Node, Nodes, handle_in, head_in}
 use Rattle.tree.specs.Going.{Spot, found, then, first, next_sibling, name}
 use Rattle.tree.specs.Limits.{Lawful}
 use Rattle.spots.specs.Rows.{row, row_of, earlier_of}
-use Rattle.spots.proofs.Finding.{none_some}
+use Rattle.spots.proofs.Finding.{none_some, nil_cons}
 use Rattle.spots.proofs.Rows.{row_next, earlier_next, found_handle}
 use Rattle.lists.specs.Groups.{Group, called, is_child, those_called, groups_after}
 use Rattle.searches.specs.Searches.{is_called, first_of_siblings, groups_at, NextGroup}
@@ -26,9 +26,6 @@ record Met (d : Nodes) (h : NodeHandle) (m : List ℕ) (s t : Spot) : Type 0 whe
   rest : List Node
   split : t.after ≡ rest ++ s.self ∷ s.after
   same : is_child s.before m ≡ (bytes_eq (called t.self) m || is_child rest m)
-
-nil_cons : {X Y : Type 0} (x : X) (xs : List X) → ◌≡◌ {A = List X} [] (x ∷ xs) → Y
-nil_cons x xs e = absurd (let z : ◌≡◌ {A = ℕ} 0 1 = cc in omega arith)
 
 nil_later : {X Y : Type 0} (xs : List X) (x : X) (ys : List X) → ◌≡◌ {A = List X} [] (xs ++ x ∷ ys) → Y
 nil_later [] x ys e = nil_cons x ys e

@@ -9,7 +9,9 @@ ghost use Rattle.lists.specs.Properties.{is_property};
 ghost use Rattle.lists.specs.Groups.{is_child};
 ghost use Rattle.searches.specs.Searches.{is_called, is_named, first_of_siblings, NextCalled, NextGroup};
 
-use forms::compare::same;
+mod row;
+
+use row::{any_named, find_named, has_name};
 use tree::handle::{EntryHandle, NodeHandle};
 use tree::interface::Tree;
 
@@ -17,68 +19,42 @@ use tree::interface::Tree;
 pub fn is_called<T: Tree>(tree: &T, node: NodeHandle, name: &[u8]) -> bool
     ensures { result ≡ is_called (found (T.Tree.meaning tree.now) node) name.now }
 {
-    match tree.name(node) {
-        Some(own) => same(own.bytes, name),
-        None => false,
-    }
+    has_name(tree, node, name)
 }
 
 // Whether the entry is a property with the name.
 pub fn is_named<T: Tree>(tree: &T, entry: EntryHandle, name: &[u8]) -> bool
     ensures { result ≡ is_named (found_entry (T.Tree.meaning tree.now) entry) name.now }
 {
-    match tree.entry_name(entry) {
-        Some(own) => same(own.bytes, name),
-        None => false,
-    }
+    has_name(tree, entry, name)
 }
 
 // The next node from `start` on that has the name.
 pub fn next_called<T: Tree>(tree: &T, start: Option<NodeHandle>, name: &[u8]) -> Option<NodeHandle>
     ensures { NextCalled (T.Tree.meaning tree.now) name.now start result }
 {
-    let mut at = start;
-    while let Some(h) = at {
-        if is_called(tree, h, name) {
-            return Some(h);
-        }
-        at = tree.next_sibling(h);
-    }
-    None
+    find_named(tree, start, name)
 }
 
 // Whether a node from `start` on has the name.
 pub fn has_called<T: Tree>(tree: &T, start: Option<NodeHandle>, name: &[u8]) -> bool
     ensures { result ≡ is_child (row (T.Tree.meaning tree.now) start) name.now }
 {
-    match next_called(tree, start, name) {
-        Some(_) => true,
-        None => false,
-    }
+    any_named(tree, start, name)
 }
 
-// Whether an entry from `start` on is a property with the name.
-pub fn has_property<T: Tree>(tree: &T, start: Option<EntryHandle>, name: &[u8]) -> bool
-    ensures { result ≡ is_property (properties_in (entry_row (T.Tree.meaning tree.now) start)) name.now }
+// Whether an entry from `entry` on is a property with the name.
+pub fn has_property<T: Tree>(tree: &T, entry: Option<EntryHandle>, name: &[u8]) -> bool
+    ensures { result ≡ is_property (properties_in (entry_row (T.Tree.meaning tree.now) entry)) name.now }
 {
-    let mut at = start;
-    while let Some(e) = at {
-        if is_named(tree, e, name) {
-            return true;
-        }
-        at = tree.next_entry(e);
-    }
-    false
+    any_named(tree, entry, name)
 }
 
 // The first node of the block; none without a block.
 pub fn first_child<T: Tree>(tree: &T, node: NodeHandle) -> Option<NodeHandle>
     ensures { result ≡ first (inner (T.Tree.meaning tree.now) node) }
 {
-    match tree.block(node) {
-        Some(first) => first,
-        None => None,
-    }
+    tree.block(node).flatten()
 }
 
 // The first of the nodes that stand with the node; none where there is no such node.
@@ -87,10 +63,10 @@ pub fn first_sibling<T: Tree>(tree: &T, node: NodeHandle) -> Option<NodeHandle>
 {
     match tree.parent(node) {
         Some(holder) => first_child(tree, holder),
-        None => match tree.node_span(node) {
-            Some(_) => tree.first_node(),
-            None => None,
-        },
+        None => {
+            tree.node_span(node)?;
+            tree.first_node()
+        }
     }
 }
 

@@ -6,6 +6,9 @@ use Rattle.tree.specs.Numbers.{Rising}
 pub none_some : {X Y : Type 0} (x : X) → ◌≡◌ {A = Option X} None (Some x) → Y
 none_some x e = absurd (let z : ◌≡◌ {A = ℕ} 0 1 = cc in omega arith)
 
+pub nil_cons : {X Y : Type 0} (x : X) (xs : List X) → ◌≡◌ {A = List X} [] (x ∷ xs) → Y
+nil_cons x xs e = absurd (let z : ◌≡◌ {A = ℕ} 0 1 = cc in omega arith)
+
 module _ {X : Type 0} where
   abbrev pub Among : X → List X → Type 0
   Among s [] = ⊥

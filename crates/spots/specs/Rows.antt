@@ -1,8 +1,8 @@
 -- What stands with a node or an entry: siblings, children, entries. Assumes nothing.
-use Rattle.std.specs.Prelude.{List, [], ◌∷◌, Some, None, Option}
+use Rattle.std.specs.Prelude.{List, [], ◌∷◌, map, drop, Some, None, Option}
 use Rattle.tree.specs.declared.handle.NodeHandle.{NodeHandle}
 use Rattle.tree.specs.declared.handle.EntryHandle.{EntryHandle}
-use Rattle.tree.specs.Document.{Entry, Node, Nodes, head_in, block_in, within, listed}
+use Rattle.tree.specs.Document.{Entry, Node, Nodes, handle_in, head_in, block_in, within, listed}
 use Rattle.tree.specs.Going.{Spot, EntrySpot, found, found_entry}
 
 abbrev pub row_of : Option Spot → List Node
@@ -13,6 +13,11 @@ row_of (Some s) = s.self ∷ s.after
 abbrev pub row : Nodes → Option NodeHandle → List Node
 row d None = []
 row d (Some h) = row_of (found d h)
+
+-- the handles from one on; the first may be no node's
+abbrev pub nodes_from : Nodes → Option NodeHandle → List NodeHandle
+nodes_from d None = []
+nodes_from d (Some h) = h ∷ map handle_in (drop 1 (row d (Some h)))
 
 abbrev pub earlier_of : Option Spot → List Node
 earlier_of None = []
@@ -44,6 +49,11 @@ entry_row_of (Some s) = s.self ∷ s.after
 abbrev pub entry_row : Nodes → Option EntryHandle → List Entry
 entry_row d None = []
 entry_row d (Some e) = entry_row_of (found_entry d e)
+
+-- the handles from one on; the first may be no entry's
+abbrev pub entries_from : Nodes → Option EntryHandle → List EntryHandle
+entries_from d None = []
+entries_from d (Some e) = e ∷ map (λ (x : Entry). x.handle) (drop 1 (entry_row d (Some e)))
 
 abbrev pub entries_of : Option Spot → List Entry
 entries_of None = []

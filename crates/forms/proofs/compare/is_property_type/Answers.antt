@@ -1,9 +1,12 @@
-use Rattle.std.proofs.Common.{◌++◌, codes}
-use Rattle.forms.proofs.Sames.{before, never}
+use Rattle.std.proofs.Common.{◌++◌, codes, rules}
+use Rattle.std.proofs.lemmas.Slice.Eq.{strip_suffix_is}
+use Rattle.std.proofs.lemmas.Bool.Decides.{Decides-eqb}
+use Rattle.forms.proofs.Sames.{before}
 use Rattle.forms.proofs.compare.is_property_type.Goals as goal
 
-pub returns-in-Some : goal.returns-in-Some
-returns-in-Some c = before c.is_property.result c.args.name.now (codes "#type") c.in-Some.front.now (codes "#@" ++ c.args.part.now) c.in-Some.ensures c.is_property.ensures
-
-pub returns-in-None : goal.returns-in-None
-returns-in-None c = never (c.in-None.ensures (codes "#@" ++ c.args.part.now))
+pub returns : goal.returns
+returns c =
+    let s = c.args.name.now in
+    let o = c.strip_suffix.result in
+    before _ s (codes "#type") (codes "#@" ++ c.args.part.now) o _ (strip_suffix_is Decides-eqb s (codes "#type") o c.strip_suffix.ensures.cases) (λ x told. search rules)
+    c.is_some_and.ensures
