@@ -2,19 +2,13 @@
 ghost use Rattle.std.specs.Prelude.{◌≤◌};
 
 use common::quoted::quoted;
+use common::shown::shown_or;
 use std::alloc::{AllocError, Global};
 use std::{io, iter};
 use tree::handle::{EntryHandle, NodeHandle};
 use tree::interface::Tree;
-use tree::span::{Identifier, Span};
+use tree::span::Identifier;
 use tree::value::{Integer, Value};
-
-fn shown_span(heap: Global, span: Option<Span>) -> Result<String, AllocError> {
-    match span {
-        None => String::from_str(heap, "nowhere"),
-        Some(span) => span.to_string(heap),
-    }
-}
 
 // An identifier with its span, or nothing.
 fn shown_ident(
@@ -84,7 +78,7 @@ fn show_entry<T: Tree>(
     let role = shown_role(heap, tree.entry_name(e))?;
     let ty = shown_ident(heap, "type", tree.entry_type(e))?;
     let value = shown_value(heap, tree.entry_value(e))?;
-    let span = shown_span(heap, tree.entry_span(e))?;
+    let span = shown_or(heap, tree.entry_span(e), "nowhere")?;
     println!(rt; "{:indent$}entry {e}{role}{ty} is {value}, span {span}", "")
 }
 
@@ -93,7 +87,7 @@ fn show_node<T: Tree>(rt: &HostRuntime, tree: &T, n: NodeHandle, entries: u32) -
     let indent = 4 * holders(tree, n);
     let name = shown_ident(heap, "name", tree.name(n))?;
     let ty = shown_ident(heap, "type", tree.node_type(n))?;
-    let span = shown_span(heap, tree.node_span(n))?;
+    let span = shown_or(heap, tree.node_span(n), "nowhere")?;
     let block = match tree.block(n) {
         None => "no block",
         Some(None) => "an empty block",

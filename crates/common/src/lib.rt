@@ -5,3 +5,4 @@ pub mod head;
 pub mod hex;
 pub mod names;
 pub mod quoted;
+pub mod shown;

@@ -1,17 +1,11 @@
 // The check of images: reads an image in hexadecimal digits from each line, and prints the answer.
 #![tactic(auto)]
 
-use common::answer::answer_text;
+use common::answer::print_answer;
 use common::hex::bytes_of;
 use image_read::check::check;
 use std::io;
 use std::io::{BufRead, BufReader};
-
-// Prints the answer of the check.
-fn answer(rt: &HostRuntime, bytes: &[u8]) -> io::Result<()> {
-    let counts = check(bytes).map(|counts| (counts.nodes, counts.entries));
-    rt.println(answer_text(rt.alloc(), counts)?)
-}
 
 fn main(rt: HostRuntime) -> io::Result<()> {
     let heap = rt.alloc();
@@ -19,7 +13,7 @@ fn main(rt: HostRuntime) -> io::Result<()> {
         let line = line?;
         match bytes_of(heap, &line)? {
             None => println!(rt; "no image")?,
-            Some(bytes) => answer(&rt, &bytes)?,
+            Some(bytes) => print_answer(&rt, check(&bytes).map(|c| (c.nodes, c.entries)))?,
         }
     }
     Ok(())

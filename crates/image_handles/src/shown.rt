@@ -1,4 +1,5 @@
 // Answers of a tree as text; `-` is absent.
+use common::shown::shown_or;
 use std::alloc::{AllocError, Global};
 use std::fmt::Display;
 use tree::handle::NodeHandle;
@@ -16,10 +17,7 @@ fn digits(heap: Global, bytes: &[u8]) -> Result<String, AllocError> {
 
 // What is there, as it prints.
 pub fn shown<T: Display + Drop>(heap: Global, answer: Option<T>) -> Result<String, AllocError> {
-    match answer {
-        None => String::from_str(heap, "-"),
-        Some(answer) => answer.to_string(heap),
-    }
+    shown_or(heap, answer, "-")
 }
 
 // A block by its first node.
