@@ -2,7 +2,7 @@
 use Rattle.std.proofs.Common.{◌≡◌, ℕ, ◌+◌, ◌^◌, ◌<◌, ◌≤◌, Bool, true, ltb, List, [], ◌∷◌, ◌++◌, length, get_or, take, drop, ℤ, pos, negsuc, Some, None, Ok, Err, Option, Result, sym, refl, ap, ◌∙◌, subst, arith, length-drop}
 use Rattle.std.specs.List.{AllByRecursion}
 use Rattle.std.proofs.ByRecursion.{All-get_or, All-take, All-drop}
-use Rattle.std.proofs.lemmas.Bool.{and_parts, and_from, ltb-true, leb-true, false≢true}
+use Rattle.std.proofs.lemmas.Bool.{and_parts, ltb-true, leb-true, false≢true}
 use Rattle.std.proofs.lemmas.List.{length-take-le, take_more, take_all}
 use Rattle.tree.specs.declared.span.Span.{Span}
 use Rattle.tree.specs.Document.{Nodes, nil, handle_in}
@@ -25,10 +25,6 @@ use Rattle.layout.proofs.Placed.{upto_rising, NodeStands, node_stands, node_numb
 pub each_all : {X : Type 0} (p : X → Bool) (xs : List X) → each p xs ≡ true → AllByRecursion (λ x. p x ≡ true) xs
 each_all p [] e = tt
 each_all p (x ∷ xs) e = let a = and_parts (p x) (each p xs) e in (a.0, each_all p xs a.1)
-
-pub each_from : {X : Type 0} (p : X → Bool) (xs : List X) → AllByRecursion (λ x. p x ≡ true) xs → each p xs ≡ true
-each_from p [] a = refl
-each_from p (x ∷ xs) a = and_from (p x) (each p xs) a.0 (each_from p xs a.1)
 
 all_through : {X : Type 0} (P Q : X → Type 0) → ((x : X) → P x → Q x) → (xs : List X) → AllByRecursion P xs → AllByRecursion Q xs
 all_through P Q f [] a = tt

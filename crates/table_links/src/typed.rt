@@ -1,8 +1,8 @@
 // What the types of rows say of the numbers in them. Nothing here does anything when it runs.
 ghost use Rattle.std.specs.Prelude.{◌≡◌, Bool, true};
-ghost use Rattle.layout.specs.Typed.{byte_typed, node_typed, entry_typed, value_typed, perhaps_typed, each};
+ghost use Rattle.layout.specs.Typed.{byte_typed, node_typed, entry_typed, each};
 
-use layout::rows::{EntryRow, IdentRow, NodeRow, ValueRow};
+use layout::rows::{EntryRow, NodeRow};
 
 pub trait Typed: Copy {
     // Whether the numbers in a value are those of their types.
@@ -18,45 +18,16 @@ impl Typed for u8 {
     fn note(self) {}
 }
 
-impl Typed for Option<IdentRow> {
-    ghost typed = { perhaps_typed };
-
-    fn note(self) {
-        if let Some(_) = self {}
-    }
-}
-
-impl Typed for ValueRow {
-    ghost typed = { value_typed };
-
-    fn note(self) {
-        match self {
-            ValueRow::Null => {}
-            ValueRow::String(_) => {}
-            ValueRow::Integer(_) => {}
-            ValueRow::Float(_) => {}
-            ValueRow::Bool(_) => {}
-            ValueRow::Unknown(_) => {}
-        }
-    }
-}
-
 impl Typed for NodeRow {
     ghost typed = { node_typed };
 
-    fn note(self) {
-        self.ty.note();
-    }
+    fn note(self) {}
 }
 
 impl Typed for EntryRow {
     ghost typed = { entry_typed };
 
-    fn note(self) {
-        self.name.note();
-        self.ty.note();
-        self.value.note();
-    }
+    fn note(self) {}
 }
 
 pub fn note_all<T: Typed>(rows: &[T])
