@@ -5,6 +5,7 @@ mod opened;
 mod sample;
 mod show;
 
+use common::answer::print_refusal;
 use layout::fault::TableFault;
 use layout::rows::NodeRow;
 use opened::{open_damaged, open_image};
@@ -22,10 +23,7 @@ fn open(rt: &HostRuntime, what: &str, source: Source<'_>) -> io::Result<()> {
             let tree = make(rt.alloc(), source)?;
             show(rt, &tree, nodes, entries)
         }
-        Err(fault) => {
-            let number = TableFault::NUMBER;
-            println!(rt; "{what}: refused {number}, {fault}")
-        }
+        Err(fault) => print_refusal(rt, what, TableFault::NUMBER, fault),
     }
 }
 

@@ -1,5 +1,6 @@
 // An image that is opened, and copies of it that are refused.
 use super::show::show;
+use common::answer::print_refusal;
 use image_load::fault::LoadFault;
 use image_load::load::load;
 use image_read::check::check;
@@ -15,8 +16,7 @@ pub fn open_image(rt: &HostRuntime, what: &str, bytes: &[u8]) -> io::Result<()> 
             show(rt, &tree, nodes, entries)
         }
         (Err(fault), _) | (_, Err(LoadFault::Image(fault))) => {
-            let number = RecordFault::NUMBER;
-            println!(rt; "{what}: refused {number}, {fault}")
+            print_refusal(rt, what, RecordFault::NUMBER, fault)
         }
         (_, Err(LoadFault::Memory)) => println!(rt; "{what}: memory is wanting"),
     }

@@ -1,4 +1,5 @@
 // Sets of forms: the fixed one, one that is opened from bytes, and copies of it that are refused.
+use common::answer::print_refusal;
 use common::names::show_forms;
 use form_read::check::check;
 use forms::fixed::FixedForms;
@@ -6,12 +7,6 @@ use forms::interface::Forms;
 use listed::held::make::make;
 use records::fault::RecordFault;
 use std::io;
-
-// Prints why bytes are refused.
-fn show_refusal(rt: &HostRuntime, what: &str, fault: RecordFault) -> io::Result<()> {
-    let number = RecordFault::NUMBER;
-    println!(rt; "{what}: refused {number}, {fault}")
-}
 
 pub fn show_fixed(rt: &HostRuntime) -> io::Result<()> {
     let count = FixedForms.count();
@@ -28,7 +23,7 @@ pub fn open_forms(rt: &HostRuntime, what: &str, bytes: &[u8]) -> io::Result<()> 
             println!(rt; "{what}: checked, {forms} forms and {names} names")?;
             show_forms(rt, &make(rt.alloc(), bytes)?)
         }
-        Err(fault) => show_refusal(rt, what, fault),
+        Err(fault) => print_refusal(rt, what, RecordFault::NUMBER, fault),
     }
 }
 

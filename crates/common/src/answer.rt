@@ -1,20 +1,34 @@
 // The answers of checks as text.
-use records::fault::RecordFault;
-use std::alloc::{AllocError, Global};
-use std::io;
+ghost use Rattle.std.specs.Prelude.{Some};
+ghost use Rattle.common.specs.Answers.{answer_shown};
 
-// Two counts, or the place and the cause of the refusal.
-pub fn answer_text(
-    heap: Global,
-    answer: Result<(u32, u32), RecordFault>,
-) -> Result<String, AllocError> {
-    match answer {
-        Ok((many, inner)) => format!(in heap; "ok {many} {inner}"),
-        Err(fault) => format!(in heap; "refused {} {}", fault.place, fault.cause),
+use records::fault::RecordFault;
+use std::fmt::Display;
+use std::{fmt, io};
+
+// The answer of a check: two counts, or a refusal.
+#[derive(Clone, Copy)]
+pub struct Answer {
+    pub counts: Result<(u32, u32), RecordFault>,
+}
+
+impl Display for Answer {
+    ghost output = { λ a. Some (answer_shown a.counts) };
+
+    fn fmt<W: fmt::Write>(&self, f: &mut fmt::Formatter<W>) -> fmt::Result {
+        match self.counts {
+            Ok((many, inner)) => write!(f, "ok {many} {inner}"),
+            Err(fault) => write!(f, "refused {} {}", fault.place, fault.cause),
+        }
     }
 }
 
-// Prints them on a line.
-pub fn print_answer(rt: &HostRuntime, answer: Result<(u32, u32), RecordFault>) -> io::Result<()> {
-    rt.println(answer_text(rt.alloc(), answer)?)
+// Prints why something is refused: the number of the refusal, and the fault.
+pub fn print_refusal<F: Display + Drop>(
+    rt: &HostRuntime,
+    what: &str,
+    number: u8,
+    fault: F,
+) -> io::Result<()> {
+    println!(rt; "{what}: refused {number}, {fault}")
 }

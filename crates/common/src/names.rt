@@ -10,12 +10,12 @@ fn shown_names<F: Forms>(heap: Global, forms: &F, form: u32) -> Result<String, A
     for position in 0..65_536 {
         match forms.name(form, position) {
             None => {
-                s.push_str(format!(in heap; "{position} -")?.as_str())?;
+                write!(s, "{position} -")?;
                 break;
             }
             Some(name) => {
                 let name = quoted(heap, name)?;
-                s.push_str(format!(in heap; "{position} {name}, ")?.as_str())?;
+                write!(s, "{position} {name}, ")?;
             }
         }
     }

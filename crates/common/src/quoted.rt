@@ -8,7 +8,7 @@ pub fn quoted(heap: Global, bytes: &[u8]) -> Result<String, AllocError> {
         if *b >= 0x20 && *b <= 0x7e && *b != b'"' && *b != b'\\' {
             s.push(*b as char)?;
         } else {
-            s.push_str(format!(in heap; "\\{:02x}", *b)?.as_str())?;
+            write!(s, "\\{:02x}", *b)?;
         }
     }
     s.push('"')?;

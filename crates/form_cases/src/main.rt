@@ -4,7 +4,7 @@
 
 mod large;
 
-use common::answer::print_answer;
+use common::answer::Answer;
 use common::head::put_head;
 use common::hex::bytes_of;
 use common::names::show_forms;
@@ -18,7 +18,9 @@ use std::io::{BufRead, BufReader};
 
 // Prints the answer of the check.
 fn answer(rt: &HostRuntime, bytes: &[u8]) -> io::Result<()> {
-    print_answer(rt, check(bytes).map(|c| (c.forms, c.names)))
+    rt.println(Answer {
+        counts: check(bytes).map(|c| (c.forms, c.names)),
+    })
 }
 
 fn show_count<F: Forms>(rt: &HostRuntime, forms: &F) -> io::Result<()> {

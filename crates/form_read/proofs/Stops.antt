@@ -1,6 +1,6 @@
 -- How telling of a listed set stops. Assumes nothing.
-use Rattle.std.proofs.Common.{◌≡◌, ℕ, ◌≤◌, false, eqb, List, [], length, Ok, Err, OnOk, Result, is_ok, sym, ap, ◌∙◌, subst}
-use Rattle.std.proofs.lemmas.Bool.{le-ltb, cond-false, false≢true}
+use Rattle.std.proofs.Common.{◌≡◌, ℕ, ◌≤◌, false, eqb, List, [], length, Ok, Err, Result, sym, ◌∙◌, subst}
+use Rattle.std.proofs.lemmas.Bool.{le-ltb, cond-false}
 use Rattle.records.specs.Places.{Place, Part, start}
 use Rattle.records.specs.declared.fault.RecordFault.{RecordFault}
 use Rattle.records.specs.declared.stop.Stop.{Stop}
@@ -27,8 +27,3 @@ module _ (told : List Form → Form → Type 0) {E : Type 0} where
   -- the set's fault, where telling stopped at one
   pub at_fault : (bs : List ℕ) (s : Stop E) (c : RecordFault) → s ≡ Fault c → ToldSet told bs (Err s) → Err c ≡ set_in bs
   at_fault bs s c is t = subst (λ z. ToldSet told bs (Err z)) is t
-
--- the outcome of the call behind one that has given Ok
-pub told_ok : {X E F P : Type 0} (r : Result X E) (q : Result X F) (x : X) → q ≡ Ok x → is_ok q ≡ is_ok r → OnOk r P → P
-told_ok (Ok y) q x is same t = t
-told_ok (Err e) q x is same t = absurd (false≢true (sym same ∙ ap is_ok is))

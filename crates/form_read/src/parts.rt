@@ -3,7 +3,7 @@ ghost use Rattle.std.specs.Prelude.{◌≡◌, ℕ, ◌+◌, ◌<◌, ◌≤◌,
 ghost use Rattle.tree.specs.Outcome.{over};
 ghost use Rattle.records.specs.Records.{mark};
 ghost use Rattle.records.specs.declared.fault.Cause.TheVariants.{Size};
-ghost use Rattle.records.specs.Read.{place_of, part_read};
+ghost use Rattle.records.specs.Read.{place_of, part_read, Inside};
 ghost use Rattle.form_format.specs.Reading.{is_long, name_part, form_part};
 
 use form_format::kind::FormKind;
@@ -21,7 +21,7 @@ fn is_too_long(bytes: &[u8]) -> bool
 // The record of the name at `p`, before which fewer than 256 names of its form stand.
 pub fn name_at(p: Cursor<'_>) -> Result<Record<'_>, RecordFault>
     ensures is { (n : ℕ) → n < 256 → over part_read result ≡ name_part n (place_of p.entry) }
-    ensures sizes { IfOk result (λ r. length r.body.bytes.now + length r.after.bytes.now + 6 ≤ length p.entry.bytes.now) }
+    ensures sizes { IfOk result (Inside p.entry) }
 {
     if is_too_long(p.bytes) {
         return Err(p.fault(Cause::Size));
@@ -32,7 +32,7 @@ pub fn name_at(p: Cursor<'_>) -> Result<Record<'_>, RecordFault>
 // The record of the form at `p`, before which fewer than 64 forms stand.
 pub fn form_at(p: Cursor<'_>) -> Result<Record<'_>, RecordFault>
     ensures is { (n : ℕ) → n < 64 → over part_read result ≡ form_part n (place_of p.entry) }
-    ensures sizes { IfOk result (λ r. length r.body.bytes.now + length r.after.bytes.now + 6 ≤ length p.entry.bytes.now) }
+    ensures sizes { IfOk result (Inside p.entry) }
 {
     p.record_of(FormKind::Form as u16)
 }

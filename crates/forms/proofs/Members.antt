@@ -1,10 +1,8 @@
 -- Names by position, and the form from a position on. Assumes nothing.
-use Rattle.std.proofs.Common.{◌≡◌, ℕ, zero, suc, ◌+◌, ◌<◌, ◌≤◌, true, false, cond, ◌||◌, List, [], ◌∷◌, map, length, get_or, drop, drop_of_length-le, position, Some, None, sym, refl, ap, ◌∙◌, add-one, arith}
+use Rattle.std.proofs.Common.{◌≡◌, ℕ, zero, suc, ◌+◌, ◌<◌, ◌≤◌, true, false, cond, ◌||◌, List, [], ◌∷◌, map, length, drop, drop_of_length-le, position, Some, None, sym, refl, ap, ◌∙◌, add-one, arith}
 use Rattle.std.specs.List.{AllByRecursion, position_from as passing}
 use Rattle.std.proofs.lemmas.Iterator.Adapters.{position_from-zero}
 use Rattle.std.specs.Str.{bytes_eq}
-use Rattle.std.specs.Option.{option_map}
-use Rattle.std.proofs.lemmas.Option.{slice_get-map, slice_get-get_or}
 -- a position where something stands is below the length
 pub use Rattle.std.proofs.lemmas.Option.{slice_get_within as nth_below}
 use Rattle.forms.specs.Forms.{Form, nth, has, position_from, position_of, form_of, FormFits, Lawful}
@@ -20,9 +18,6 @@ module _ {X : Type 0} where
   nth_none [] (suc i) e = refl
   nth_none (y ∷ ys) zero e = let z : ◌≡◌ {A = ℕ} 0 1 = cc in absurd (omega arith)
   nth_none (y ∷ ys) (suc i) e = nth_none ys i e
-
-pub nth_map : {X Y : Type 0} (f : X → Y) (d : X) (xs : List X) (i : ℕ) → i < length xs → nth (map f xs) i ≡ Some (f (get_or xs i d))
-nth_map f d xs i h = slice_get-map f xs i ∙ ap (option_map f) (slice_get-get_or xs i d h)
 
 all_fit : (fs : List Form) (i : ℕ) → AllByRecursion FormFits fs → length (form_of fs i) ≤ 65535
 all_fit [] i h = omega arith

@@ -1,7 +1,7 @@
 // The check of images: reads an image in hexadecimal digits from each line, and prints the answer.
 #![tactic(auto)]
 
-use common::answer::print_answer;
+use common::answer::Answer;
 use common::hex::bytes_of;
 use image_read::check::check;
 use std::io;
@@ -13,7 +13,9 @@ fn main(rt: HostRuntime) -> io::Result<()> {
         let line = line?;
         match bytes_of(heap, &line)? {
             None => println!(rt; "no image")?,
-            Some(bytes) => print_answer(&rt, check(&bytes).map(|c| (c.nodes, c.entries)))?,
+            Some(bytes) => rt.println(Answer {
+                counts: check(&bytes).map(|c| (c.nodes, c.entries)),
+            })?,
         }
     }
     Ok(())

@@ -6,15 +6,6 @@ use tree::handle::NodeHandle;
 use tree::span::Identifier;
 use tree::value::{Integer, Value};
 
-// Bytes in hexadecimal digits.
-fn digits(heap: Global, bytes: &[u8]) -> Result<String, AllocError> {
-    let mut s = String::new(heap);
-    for b in bytes {
-        write!(s, "{:02x}", *b)?;
-    }
-    Ok(s)
-}
-
 // What is there, as it prints.
 pub fn shown<T: Display + Drop>(heap: Global, answer: Option<T>) -> Result<String, AllocError> {
     shown_or(heap, answer, "-")
@@ -32,7 +23,7 @@ pub fn shown_ident(heap: Global, ident: Option<Identifier<'_>>) -> Result<String
     match ident {
         None => shown::<&str>(heap, None),
         Some(Identifier { bytes, span }) => {
-            let bytes = digits(heap, bytes)?;
+            let bytes = hex::encode(heap, bytes)?;
             format!(in heap; "{bytes}@{span}")
         }
     }
@@ -43,7 +34,7 @@ pub fn shown_value(heap: Global, value: Option<Value<'_>>) -> Result<String, All
         None => shown::<&str>(heap, None),
         Some(Value::Null) => String::from_str(heap, "null"),
         Some(Value::String(bytes)) => {
-            let bytes = digits(heap, bytes)?;
+            let bytes = hex::encode(heap, bytes)?;
             format!(in heap; "string:{bytes}")
         }
         Some(Value::Integer(Integer { high, low })) => format!(in heap; "integer:{high}:{low}"),

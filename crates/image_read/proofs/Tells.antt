@@ -1,6 +1,5 @@
 -- How telling stops. Assumes nothing.
-use Rattle.std.proofs.Common.{◌≡◌, ℕ, ◌+◌, ◌<◌, ◌≤◌, false, eqb, List, [], ◌∷◌, ◌++◌, length, Some, None, Ok, Err, Option, OnOk, Result, IfNone, IsSome, refl, is_ok, sym, ap, ◌∙◌, subst, arith}
-use Rattle.std.proofs.lemmas.Bool.{false≢true}
+use Rattle.std.proofs.Common.{◌≡◌, ℕ, ◌+◌, ◌<◌, ◌≤◌, false, eqb, List, [], ◌∷◌, ◌++◌, length, Some, None, Ok, Err, Option, IfNone, IsSome, refl, subst, arith}
 use Rattle.tree.specs.declared.handle.NodeHandle.{NodeHandle}
 use Rattle.tree.specs.Outcome.{over}
 use Rattle.index.specs.declared.keyed.Keyed.{Keyed}
@@ -26,11 +25,6 @@ module _ (parent : Option NodeHandle) (x y : Both) (d : ℕ) (p q : Place) (on :
 pub is_there : {X P : Type 0} (o : Option X) → IfNone o P → (P → ⊥) → IsSome o
 is_there None p not = absurd (not p)
 is_there (Some x) p not = refl
-
--- the outcome of the call behind one that has given Ok
-pub told_ok : {X E F P : Type 0} (r : Result X E) (q : Result X F) (x : X) → q ≡ Ok x → is_ok q ≡ is_ok r → OnOk r P → P
-told_ok (Ok y) q x is same t = t
-told_ok (Err e) q x is same t = absurd (false≢true (sym same ∙ ap is_ok is))
 
 module _ (told : List (Keyed NodeLink) → List (Keyed EntryLink) → Type 0) {E : Type 0} where
   pub block_stopped : (e : Stop E) (parent : Option NodeHandle) (x : Both) (d : ℕ) (p : Place) (r : Part) → false ≡ eqb (length p.bytes) 0 → Ok r ≡ part_of 1 p → length r.body.bytes + 6 ≤ length p.bytes

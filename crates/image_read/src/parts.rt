@@ -1,7 +1,7 @@
 // The records of an image, one by one.
 ghost use Rattle.std.specs.Prelude.{◌≡◌, ℕ, ◌+◌, ◌<◌, ◌≤◌, length, IfOk, ◌==◌};
 ghost use Rattle.tree.specs.Outcome.{over};
-ghost use Rattle.records.specs.Read.{place_of, part_read};
+ghost use Rattle.records.specs.Read.{place_of, part_read, Inside};
 ghost use Rattle.image_format.specs.Kinds.{code_of};
 ghost use Rattle.image_format.specs.Reading.{next, part_of, spanned, ident, perhaps, ended, value, value_in, entry, is_entry, fore};
 ghost use Rattle.image_format.proofs.Passing.{behind, wrong, aside};
@@ -18,7 +18,7 @@ const DEEPEST: u32 = 32;
 // The record at `p`, which is to have this kind.
 pub fn record_of(p: Cursor<'_>, kind: Kind) -> Result<Record<'_>, RecordFault>
     ensures is { over part_read result ≡ part_of (code_of kind) (place_of p.entry) }
-    ensures sizes { IfOk result (λ r. length r.body.bytes.now + length r.after.bytes.now + 6 ≤ length p.entry.bytes.now) }
+    ensures sizes { IfOk result (Inside p.entry) }
 {
     p.record_of(kind.into())
 }

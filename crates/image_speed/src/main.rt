@@ -4,7 +4,7 @@
 mod large;
 mod measure;
 
-use common::answer::answer_text;
+use common::answer::Answer;
 use image_format::kind::Kind;
 use image_read::check::check;
 use large::{nested_heads, nodes_with_an_argument, smallest_nodes, zeros};
@@ -13,8 +13,9 @@ use std::{env, io};
 
 fn answer(rt: &HostRuntime, what: &str, bytes: &[u8]) -> io::Result<()> {
     let length = bytes.len();
-    let counts = check(bytes).map(|counts| (counts.nodes, counts.entries));
-    let answer = answer_text(rt.alloc(), counts)?;
+    let answer = Answer {
+        counts: check(bytes).map(|c| (c.nodes, c.entries)),
+    };
     println!(rt; "{what}, {length} bytes: {answer}")
 }
 
@@ -37,8 +38,16 @@ fn main(rt: HostRuntime) -> io::Result<()> {
     answer(&rt, "nodes with an argument and a byte", &nodes)?;
     answer(&rt, "nested heads", &nested_heads(heap)?)?;
     answer(&rt, "length 0", &zeros(heap, 0, Kind::Document, 1_048_570)?)?;
-    answer(&rt, "length 0 and a byte", &zeros(heap, 0, Kind::Document, 1_048_571)?)?;
-    answer(&rt, "a node", &zeros(heap, 1_048_576, Kind::Node, 1_048_570)?)?;
+    answer(
+        &rt,
+        "length 0 and a byte",
+        &zeros(heap, 0, Kind::Document, 1_048_571)?,
+    )?;
+    answer(
+        &rt,
+        "a node",
+        &zeros(heap, 1_048_576, Kind::Node, 1_048_570)?,
+    )?;
     answer(
         &rt,
         "a node and a byte",

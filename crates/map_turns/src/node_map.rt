@@ -25,7 +25,7 @@ pub struct NodeMap<'a, T, F> {
 
 impl<T: Tree, F: Forms> NodeMap<'_, T, F> {
     // Whether the form has what the key spells. Without a form nothing is asked for.
-    fn wants(&self, key: Spelled) -> bool
+    pub fn wants(&self, key: Spelled) -> bool
         ensures { result ≡ has (form_in (F.Forms.meaning self.now.forms.now) self.now.form) (spelled (key_of key.entry)) }
     {
         self.form.is_some_and(|form| has_key(self.forms, form, key))

@@ -1,6 +1,6 @@
 -- Small facts on results. Assumes nothing.
-use Rattle.std.proofs.Common.{◌≡◌, ℕ, Bool, true, false, cond, eqb, ◌⊎◌, Ok, Err, Result, refl, ap, ◌∙◌, inl, inr, ⊎_elim, arith}
-use Rattle.std.proofs.lemmas.Bool.{cases_eq, eq-eqb, ne_eqb}
+use Rattle.std.proofs.Common.{◌≡◌, ℕ, Bool, true, false, cond, eqb, ◌⊎◌, is_ok, OnOk, Ok, Err, Result, refl, sym, ap, ◌∙◌, inl, inr, ⊎_elim, arith}
+use Rattle.std.proofs.lemmas.Bool.{cases_eq, eq-eqb, ne_eqb, false≢true}
 use Rattle.tree.specs.Outcome.{and_then, over}
 
 pub err_ok : {X E Y : Type 0} (d : E) (x : X) → Err d ≡ Ok x → Y
@@ -31,3 +31,8 @@ then_is m f x y e g = ap (λ m. and_then m f) e ∙ g
 pub over_is : {X Y E : Type 0} (g : X → Y) (m : Result X E) (y : Y) → over g m ≡ Ok y → (x : X) × (m ≡ Ok x) × (g x ≡ y)
 over_is g (Ok x) y e = (x, refl, ok_ok e)
 over_is g (Err d) y e = err_ok d y e
+
+-- the outcome of the call behind one that has given Ok
+pub told_ok : {X E F P : Type 0} (r : Result X E) (q : Result X F) (x : X) → q ≡ Ok x → is_ok q ≡ is_ok r → OnOk r P → P
+told_ok (Ok y) q x is same t = t
+told_ok (Err e) q x is same t = absurd (false≢true (sym same ∙ ap is_ok is))

@@ -4,7 +4,7 @@ ghost use Rattle.tree.specs.Outcome.{over};
 ghost use Rattle.records.specs.Places.{next, part, part_of, start};
 ghost use Rattle.records.specs.declared.fault.Cause.TheVariants.{Size};
 ghost use Rattle.records.specs.Lent.{part_from};
-ghost use Rattle.records.specs.Read.{place_of, part_read};
+ghost use Rattle.records.specs.Read.{place_of, part_read, Inside};
 
 use super::cursor::{Cursor, Record};
 use super::cut::Cut;
@@ -56,7 +56,7 @@ impl<'a> Cursor<'a> {
     fn placed(self, cut: Cut<'a>) -> Record<'a>
         requires { length cut.body.now + length cut.rest.now + 6 ≡ length self.bytes.now }
         ensures is { part_read result ≡ part_from self.entry.at self.entry.bytes.now cut.entry }
-        ensures sizes { length result.body.bytes.now + length result.after.bytes.now + 6 ≤ length self.entry.bytes.now }
+        ensures sizes { Inside self.entry result }
     {
         Record {
             kind: cut.kind,
@@ -74,7 +74,7 @@ impl<'a> Cursor<'a> {
     // The record that stands here, whatever its kind.
     pub fn record(self) -> Result<Record<'a>, RecordFault>
         ensures is { over part_read result ≡ part (place_of self.entry) }
-        ensures sizes { IfOk result (λ r. length r.body.bytes.now + length r.after.bytes.now + 6 ≤ length self.entry.bytes.now) }
+        ensures sizes { IfOk result (Inside self.entry) }
     {
         match take_record(self.bytes) {
             Ok(cut) => Ok(self.placed(cut)),
@@ -85,7 +85,7 @@ impl<'a> Cursor<'a> {
     // The record that stands here, which is to have this kind.
     pub fn record_of(self, kind: u16) -> Result<Record<'a>, RecordFault>
         ensures is { over part_read result ≡ part_of kind (place_of self.entry) }
-        ensures sizes { IfOk result (λ r. length r.body.bytes.now + length r.after.bytes.now + 6 ≤ length self.entry.bytes.now) }
+        ensures sizes { IfOk result (Inside self.entry) }
     {
         let cut = record_of(self.at, self.bytes, kind)?;
         Ok(self.placed(cut))

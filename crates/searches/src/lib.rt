@@ -76,9 +76,7 @@ pub fn next_group<T: Tree>(tree: &T, start: Option<NodeHandle>) -> Option<NodeHa
 {
     let mut at = start;
     'nodes: while let Some(h) = at {
-        let Some(name) = tree.name(h) else {
-            return None;
-        };
+        let name = tree.name(h)?;
         let mut before = first_sibling(tree, h);
         'earlier: while let Some(e) = before {
             if e == h {

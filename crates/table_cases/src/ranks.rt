@@ -76,15 +76,15 @@ fn at_entries(rt: &HostRuntime) -> io::Result<()> {
         rows(&[node(0, 65_536, false, 0)], &more),
     )?;
     let one = [node(0, 1, false, 0)];
-    for (what, row, of_a_node) in [
-        ("entry's name and type", entry_named(entry_typed(odd)), true),
-        ("entry's name and value", entry_named(odd), true),
-        ("entry's name and no node", entry_named(null), false),
-        ("entry's type and value", entry_typed(odd), true),
-        ("entry's type and no node", entry_typed(null), false),
-        ("entry's value and no node", odd, false),
+    let one = one.as_slice();
+    for (what, nodes, row) in [
+        ("entry's name and type", one, entry_named(entry_typed(odd))),
+        ("entry's name and value", one, entry_named(odd)),
+        ("entry's name and no node", &[], entry_named(null)),
+        ("entry's type and value", one, entry_typed(odd)),
+        ("entry's type and no node", &[], entry_typed(null)),
+        ("entry's value and no node", &[], odd),
     ] {
-        let nodes = if of_a_node { one.as_slice() } else { &[] };
         case(rt, what, rows(nodes, &[row]))?;
     }
     Ok(())

@@ -1,4 +1,4 @@
-// What the types of rows say of the numbers in them. Nothing here does anything when it runs.
+// What the types of rows say of the numbers in them. A note does nothing when it runs.
 ghost use Rattle.std.specs.Prelude.{◌≡◌, Bool, true};
 ghost use Rattle.layout.specs.Typed.{byte_typed, node_typed, entry_typed, each};
 

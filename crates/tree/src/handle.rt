@@ -20,7 +20,8 @@ impl fmt::Display for NodeHandle {
     ghost output = { λ n. Some (decimal n.number) };
 
     fn fmt<W: fmt::Write>(&self, f: &mut fmt::Formatter<W>) -> fmt::Result {
-        write!(f, "{}", self.number)
+        let NodeHandle { number } = self;
+        write!(f, "{number}")
     }
 }
 
@@ -28,6 +29,7 @@ impl fmt::Display for EntryHandle {
     ghost output = { λ e. Some (decimal e.number) };
 
     fn fmt<W: fmt::Write>(&self, f: &mut fmt::Formatter<W>) -> fmt::Result {
-        write!(f, "{}", self.number)
+        let EntryHandle { number } = self;
+        write!(f, "{number}")
     }
 }

@@ -4,7 +4,8 @@ use Rattle.records.specs.Read.{place_of, part_read}
 use Rattle.form_format.specs.Reading.{form}
 use Rattle.form_format.proofs.Going.{going_start, going_more, going_fault, going_end}
 use Rattle.form_format.proofs.Steps.{form_read, form_refused, form_shrinks, forms_full}
-use Rattle.form_read.proofs.Stops.{told_ok, set_stopped}
+use Rattle.records.proofs.Results.{told_ok}
+use Rattle.form_read.proofs.Stops.{set_stopped}
 use Rattle.form_read.proofs.telling.tell_forms.Goals as goal
 
 pub loop-before-init : goal.loop-before-init

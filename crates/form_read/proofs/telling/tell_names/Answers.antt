@@ -4,7 +4,7 @@ use Rattle.records.specs.Read.{place_of, part_read}
 use Rattle.form_format.specs.Reading.{name}
 use Rattle.form_format.proofs.Going.{going_start, going_more, going_fault, going_end}
 use Rattle.form_format.proofs.Steps.{name_read, name_refused, name_shrinks, names_full}
-use Rattle.form_read.proofs.Stops.{told_ok}
+use Rattle.records.proofs.Results.{told_ok}
 use Rattle.form_read.proofs.telling.tell_names.Goals as goal
 
 pub loop-before-init : goal.loop-before-init

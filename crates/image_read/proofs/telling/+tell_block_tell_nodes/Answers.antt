@@ -4,7 +4,8 @@ use Rattle.image_format.proofs.Runs.{stop, go}
 use Rattle.image_format.proofs.Linking.{filled_end, filled_fore, block_filled}
 use Rattle.records.specs.Read.{place_of, part_read}
 use Rattle.image_read.specs.Lent.{aside_of}
-use Rattle.image_read.proofs.Tells.{told_ok, nodes_on, block_stopped, entries_stopped, nodes_stopped}
+use Rattle.records.proofs.Results.{told_ok}
+use Rattle.image_read.proofs.Tells.{nodes_on, block_stopped, entries_stopped, nodes_stopped}
 use Rattle.image_read.proofs.telling.+tell_block_tell_nodes.Goals as goal
 
 pub tell_block-returns-in_err-record : goal.tell_block-returns-in_err-record

@@ -4,7 +4,7 @@ use Rattle.index.specs.declared.keyed.Keyed.{Keyed}
 use Rattle.index.specs.declared.link.EntryLink.{EntryLink}
 use Rattle.image_format.proofs.Linking.{entries_end, entries_err, entries_on}
 use Rattle.records.specs.Read.{place_of}
-use Rattle.image_read.proofs.Tells.{told_ok}
+use Rattle.records.proofs.Results.{told_ok}
 use Rattle.image_read.proofs.telling.tell_entries.Goals as goal
 
 pub returns-in_err-after-clause-is : goal.returns-in_err-after-clause-is

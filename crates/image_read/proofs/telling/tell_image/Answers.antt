@@ -1,9 +1,8 @@
-use Rattle.std.proofs.Common.{◌≡◌, ◌≤◌, length, Ok, Err, refl, ap, subst, arith}
+use Rattle.std.proofs.Common.{◌≡◌, length, Ok, Err, refl, ap, subst, arith}
 use Rattle.std.proofs.lemmas.Result.{err_from_is_err_and}
-use Rattle.tree.specs.Outcome.{over}
 use Rattle.records.specs.Places.{Place}
 use Rattle.records.specs.Read.{part_read}
-use Rattle.image_format.specs.Reading.{part_of, start}
+use Rattle.image_format.specs.Reading.{part_of}
 use Rattle.image_format.proofs.Runs.{stop, go}
 use Rattle.image_format.proofs.Linking.{image_filled}
 use Rattle.image_read.proofs.Tells.{image_stopped}
