@@ -1,5 +1,5 @@
 -- How telling stops. Assumes nothing.
-use Rattle.std.proofs.Common.{◌≡◌, ℕ, ◌+◌, ◌<◌, ◌≤◌, false, eqb, List, [], ◌∷◌, ◌++◌, length, Some, None, Ok, Err, Option, IfNone, IsSome, refl, subst, arith}
+use Rattle.std.proofs.Common.{◌≡◌, ℕ, ◌+◌, ◌<◌, ◌≤◌, false, eqb, List, [], ◌∷◌, ◌++◌, length, Some, None, Ok, Err, Option, subst, arith}
 use Rattle.tree.specs.declared.handle.NodeHandle.{NodeHandle}
 use Rattle.tree.specs.Outcome.{over}
 use Rattle.index.specs.declared.keyed.Keyed.{Keyed}
@@ -20,11 +20,6 @@ module _ (parent : Option NodeHandle) (x y : Both) (d : ℕ) (p q : Place) (on :
     pub nodes_on : (l : Keyed NodeLink) (z : Both) → l ≡ link_at parent p.at a.rest rest a.after → length a.after.bytes < length p.bytes → FillsBlock (Some (record { number = p.at })) (y.0 ++ l ∷ [], vs) (d + 1) rest (Ok z)
         → (r : Read Both) → Fills parent z d a.after r → Fills parent x d q r
     nodes_on l z same lesser t r more = on r (filled_on parent y d p isnt a h vs rest k z r less lesser (subst (λ w. FillsBlock (Some (record { number = p.at })) (y.0 ++ w ∷ [], vs) (d + 1) rest (Ok z)) same t) more)
-
--- a value is there, where its absence is impossible
-pub is_there : {X P : Type 0} (o : Option X) → IfNone o P → (P → ⊥) → IsSome o
-is_there None p not = absurd (not p)
-is_there (Some x) p not = refl
 
 module _ (told : List (Keyed NodeLink) → List (Keyed EntryLink) → Type 0) {E : Type 0} where
   pub block_stopped : (e : Stop E) (parent : Option NodeHandle) (x : Both) (d : ℕ) (p : Place) (r : Part) → false ≡ eqb (length p.bytes) 0 → Ok r ≡ part_of 1 p → length r.body.bytes + 6 ≤ length p.bytes

@@ -1,5 +1,5 @@
 -- What is found of a document. Assumes nothing.
-use Rattle.std.proofs.Common.{◌≡◌, ℕ, Bool, true, false, cond, eqb, List, [], ◌∷◌, Some, None, Option, sym, refl, subst, arith}
+use Rattle.std.proofs.Common.{◌≡◌, ℕ, Bool, true, false, cond, eqb, List, [], ◌∷◌, Some, None, Option, sym, refl, subst, arith, IfNone, IsSome}
 use Rattle.std.specs.List.{AllByRecursion}
 use Rattle.std.specs.Option.{option_map}
 use Rattle.std.proofs.lemmas.Bool.{eqb-true}
@@ -38,3 +38,8 @@ met f (Some x) y e = record { value = x; is = refl }
 pub unmet : {X Y : Type 0} (f : X → Y) (o : Option X) → None ≡ option_map f o → o ≡ None
 unmet f None e = refl
 unmet f (Some x) e = none_some (f x) e
+
+-- a value is there, where its absence is impossible
+pub is_there : {X P : Type 0} (o : Option X) → IfNone o P → (P → ⊥) → IsSome o
+is_there None p not = absurd (not p)
+is_there (Some x) p not = refl

@@ -1,5 +1,5 @@
 -- Writing numbers and reading them are one another's inverse. Assumes nothing.
-use Rattle.std.proofs.Common.{◌≡◌, ℕ, zero, suc, ◌+◌, ◌*◌, ◌/◌, ◌%◌, ◌^◌, ◌<◌, ◌≤◌, Bool, true, false, ◌&&◌, ltb, List, [], ◌∷◌, ◌++◌, length, get_or, take, sym, refl, ap, ◌∙◌, arith, length-take-le}
+use Rattle.std.proofs.Common.{◌≡◌, ℕ, zero, suc, ◌+◌, ◌*◌, ◌/◌, ◌%◌, ◌^◌, ◌<◌, ◌≤◌, Bool, true, false, ◌&&◌, ltb, List, [], ◌∷◌, ◌++◌, length, get_or, take, sym, refl, ap, ◌∙◌, arith, length-take-le, Fits, w8}
 use native.Mathlib.Nat.{pow-succ'}
 use Rattle.std.proofs.ByRecursion.{All-take, All-from_get_or}
 use Rattle.std.proofs.lemmas.Bool.{lt-ltb, ltb-true, false≢true}
@@ -63,5 +63,5 @@ bytes_from_are (x ∷ xs) e = go (ltb x 256) refl (bytes_from_are xs) e
     go false h more k = absurd (false≢true k)
 
 -- bytes, where each number that is read from them is one
-pub bytes_from : (bs : List ℕ) → ((k : ℕ) → get_or bs k 0 < 256) → Bytes bs
-bytes_from bs h = All-from_get_or (λ x. x < 256) bs 0 (λ k l. h k)
+pub bytes_from : (bs : List ℕ) → ((k : ℕ) → Fits w8 (get_or bs k 0)) → Bytes bs
+bytes_from bs h = All-from_get_or (λ x. x < 256) bs 0 (λ k l. (h k).fits)

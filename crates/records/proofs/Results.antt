@@ -1,6 +1,7 @@
 -- Small facts on results. Assumes nothing.
-use Rattle.std.proofs.Common.{◌≡◌, ℕ, Bool, true, false, cond, eqb, ◌⊎◌, is_ok, OnOk, Ok, Err, Result, refl, sym, ap, ◌∙◌, inl, inr, ⊎_elim, arith}
+use Rattle.std.proofs.Common.{◌≡◌, ℕ, Bool, true, false, cond, eqb, ◌⊎◌, is_ok, OnOk, IsErr, IsErrAnd, Ok, Err, Result, refl, sym, ap, ◌∙◌, inl, inr, ⊎_elim, arith}
 use Rattle.std.proofs.lemmas.Bool.{cases_eq, eq-eqb, ne_eqb, false≢true}
+use Rattle.std.proofs.lemmas.Result.{err_from_is_err_and}
 use Rattle.tree.specs.Outcome.{and_then, over}
 
 pub err_ok : {X E Y : Type 0} (d : E) (x : X) → Err d ≡ Ok x → Y
@@ -36,3 +37,7 @@ over_is g (Err d) y e = err_ok d y e
 pub told_ok : {X E F P : Type 0} (r : Result X E) (q : Result X F) (x : X) → q ≡ Ok x → is_ok q ≡ is_ok r → OnOk r P → P
 told_ok (Ok y) q x is same t = t
 told_ok (Err e) q x is same t = absurd (false≢true (sym same ∙ ap is_ok is))
+
+-- an error that is passed on by a question mark
+pub passed : {X E : Type 0} {e : E} (r : Result X E) → IsErr r × IsErrAnd r (λ x. x ≡ e) → r ≡ Err e
+passed r h = let p = err_from_is_err_and r h.1 in p.1 ∙ ap Err p.2

@@ -1,10 +1,9 @@
 use Rattle.std.proofs.Common.{[], ◌∷◌, ◌++◌, Err, ap, ◌∙◌, arith}
-use Rattle.std.proofs.lemmas.Result.{err_from_is_err_and}
 use Rattle.records.specs.Read.{place_of, part_read}
 use Rattle.form_format.specs.Reading.{form}
 use Rattle.form_format.proofs.Going.{going_start, going_more, going_fault, going_end}
 use Rattle.form_format.proofs.Steps.{form_read, form_refused, form_shrinks, forms_full}
-use Rattle.records.proofs.Results.{told_ok}
+use Rattle.records.proofs.Results.{passed, told_ok}
 use Rattle.form_read.proofs.Stops.{set_stopped}
 use Rattle.form_read.proofs.telling.tell_forms.Goals as goal
 
@@ -18,16 +17,14 @@ returns-then-is_at_end g c = λ t.
 
 pub returns-in_err-record : goal.returns-in_err-record
 returns-in_err-record g c =
-    let p = err_from_is_err_and c.from_residual.result c.from_residual.ensures.1 in
-    rw (p.1, p.2) (λ t.
+    rw (passed c.from_residual.result c.from_residual.ensures) (λ t.
     let i = c.loop-before.invariant t in
     let here = place_of c.loop-before.rest in
     going_fault form _ i.0 c.loop-before._before here i.2 _ c.if-is_at_end.ensures (form_refused c.loop-before._before here _ (c.in_err-record.ensures.is c.loop-before._before (omega arith))))
 
 pub returns-in_err-tell_names : goal.returns-in_err-tell_names
 returns-in_err-tell_names g c =
-    let p = err_from_is_err_and c.from_residual-in_err-tell_names.result c.from_residual-in_err-tell_names.ensures.1 in
-    rw (p.1, p.2) (λ t.
+    rw (passed c.from_residual-in_err-tell_names.result c.from_residual-in_err-tell_names.ensures) (λ t.
     let i = c.loop-before.invariant t in
     set_stopped (g.S.FormSink.told c.tell_names.new.sink) c.in_err-tell_names.field-0.0 (place_of c.args.start) i.0 c.loop-before._before (place_of c.loop-before.rest) (part_read c.in_ok-record.record) i.2 c.if-is_at_end.ensures (c.in_ok-record.ensures.is c.loop-before._before (omega arith))
     (c.in_err-tell_names.ensures i.0 [] i.1))
@@ -45,8 +42,7 @@ loop-before-preserved g c = λ t.
 
 pub returns-in_err-full_at : goal.returns-in_err-full_at
 returns-in_err-full_at g c =
-    let p = err_from_is_err_and c.from_residual-in_err-full_at.result c.from_residual-in_err-full_at.ensures.1 in
-    rw (p.1, p.2) (λ t.
+    rw (passed c.from_residual-in_err-full_at.result c.from_residual-in_err-full_at.ensures) (λ t.
     let i = c.loop-before.invariant t in
     let here = place_of c.loop-before.rest in
     let k = c.in_err-full_at.ensures in

@@ -1,10 +1,9 @@
 use Rattle.std.proofs.Common.{[], ◌∷◌, ◌++◌, Err, sym, ap, ◌∙◌, subst, append_assoc, append-nil, arith}
-use Rattle.std.proofs.lemmas.Result.{err_from_is_err_and}
 use Rattle.records.specs.Read.{place_of, part_read}
 use Rattle.form_format.specs.Reading.{name}
 use Rattle.form_format.proofs.Going.{going_start, going_more, going_fault, going_end}
 use Rattle.form_format.proofs.Steps.{name_read, name_refused, name_shrinks, names_full}
-use Rattle.records.proofs.Results.{told_ok}
+use Rattle.records.proofs.Results.{passed, told_ok}
 use Rattle.form_read.proofs.telling.tell_names.Goals as goal
 
 pub loop-before-init : goal.loop-before-init
@@ -17,8 +16,7 @@ returns-then-is_at_end g c = λ fs ms t.
 
 pub returns-in_err-record : goal.returns-in_err-record
 returns-in_err-record g c =
-    let p = err_from_is_err_and c.from_residual.result c.from_residual.ensures.1 in
-    rw (p.1, p.2) (λ fs ms t.
+    rw (passed c.from_residual.result c.from_residual.ensures) (λ fs ms t.
     let i = c.loop-before.invariant fs ms t in
     let here = place_of c.loop-before.rest in
     going_fault name _ i.0 c.loop-before._before here i.2 _ c.if-is_at_end.ensures (name_refused c.loop-before._before here _ (c.in_err-record.ensures.is c.loop-before._before (omega arith))))
@@ -36,8 +34,7 @@ loop-before-preserved g c = λ fs ms t.
 
 pub returns-in_err-full_at : goal.returns-in_err-full_at
 returns-in_err-full_at g c =
-    let p = err_from_is_err_and c.from_residual-in_err-full_at.result c.from_residual-in_err-full_at.ensures.1 in
-    rw (p.1, p.2) (λ fs ms t.
+    rw (passed c.from_residual-in_err-full_at.result c.from_residual-in_err-full_at.ensures) (λ fs ms t.
     let i = c.loop-before.invariant fs ms t in
     let here = place_of c.loop-before.rest in
     let k = c.in_err-full_at.ensures in

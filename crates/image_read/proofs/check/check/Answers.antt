@@ -1,4 +1,4 @@
-use Rattle.std.proofs.Common.{◌≡◌, min, [], length, refl, arith}
+use Rattle.std.proofs.Common.{◌≡◌, min, [], length, refl}
 use Rattle.records.specs.Numbers.{Bytes}
 use Rattle.image_format.proofs.Made.{told_counts, told_fault, accepts, unique, bytes_from}
 use Rattle.image_read.proofs.Tells.{at_fault}
@@ -7,7 +7,7 @@ use Rattle.image_read.proofs.check.check.Goals as goal
 pub returns-in-Ok : goal.returns-in-Ok
 returns-in-Ok c =
     let bs = c.args.bytes.now in
-    let b : Bytes bs = bytes_from bs (λ k. omega (arith, c.type_inv.bytes k)) in
+    let b : Bytes bs = bytes_from bs c.type_inv.bytes in
     let t = c.in-Ok.ensures ([], []) (refl, refl) in
     let a = told_counts bs b t.0 _ _ t.1 t.2.0 t.2.1 in
     record { answer = a; exact = accepts bs _ b a; unique = unique bs }
@@ -15,7 +15,7 @@ returns-in-Ok c =
 pub returns-in-Err-Fault : goal.returns-in-Err-Fault
 returns-in-Err-Fault c =
     let bs = c.args.bytes.now in
-    let b : Bytes bs = bytes_from bs (λ k. omega (arith, c.type_inv.bytes k)) in
+    let b : Bytes bs = bytes_from bs c.type_inv.bytes in
     let t = at_fault (λ ns es. (c.tell_image.new.sink.nodes ≡ min (length ns) 4294967295) × (c.tell_image.new.sink.entries ≡ min (length es) 4294967295)) ([], []) bs _ _ c.in-Err-Fault.field-0-is (c.in-Err-Fault.ensures ([], []) (refl, refl)) in
     let a = told_fault bs c.in-Err-Fault.fault t in
     rw c.in-Err-Fault.fault-is (record { answer = a; exact = accepts bs _ b a; unique = unique bs })

@@ -1,5 +1,5 @@
 use Rattle.std.proofs.Common.{refl}
-use Rattle.std.proofs.lemmas.Result.{err_from_is_err_and}
+use Rattle.records.proofs.Results.{passed}
 use Rattle.image_format.specs.Reading.{ident}
 use Rattle.image_format.proofs.Passing.{behind}
 use Rattle.image_format.proofs.Runs.{stops, stops_over, goes_on, goes_over}
@@ -8,14 +8,12 @@ use Rattle.image_read.proofs.parts.pass_ident.Goals as goal
 pub returns-in_err-record-clause-is : goal.returns-in_err-record-clause-is
 unfolding ident
 returns-in_err-record-clause-is c =
-    let p = err_from_is_err_and c.from_residual.result c.from_residual.ensures.1 in
-    rw (p.1, p.2) (stops _ _ _ _ c.in_err-record.ensures.is)
+    rw (passed c.from_residual.result c.from_residual.ensures) (stops _ _ _ _ c.in_err-record.ensures.is)
 
 pub returns-in_err-behind_span-clause-is : goal.returns-in_err-behind_span-clause-is
 unfolding ident
 returns-in_err-behind_span-clause-is c =
-    let p = err_from_is_err_and c.from_residual-in_err-behind_span.result c.from_residual-in_err-behind_span.ensures.1 in
-    rw (p.1, p.2) (goes_on _ _ _ _ _ c.in_ok-record.ensures.is (stops_over _ behind _ _ _ c.in_err-behind_span.ensures.is))
+    rw (passed c.from_residual-in_err-behind_span.result c.from_residual-in_err-behind_span.ensures) (goes_on _ _ _ _ _ c.in_ok-record.ensures.is (stops_over _ behind _ _ _ c.in_err-behind_span.ensures.is))
 
 pub returns-clause-is : goal.returns-clause-is
 unfolding ident

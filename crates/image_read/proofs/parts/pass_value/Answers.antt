@@ -1,4 +1,4 @@
-use Rattle.std.proofs.lemmas.Result.{err_from_is_err_and}
+use Rattle.records.proofs.Results.{passed}
 use Rattle.image_format.specs.Reading.{value}
 use Rattle.records.specs.Read.{place_of}
 use Rattle.image_format.proofs.Runs.{stops, goes_on}
@@ -8,8 +8,7 @@ use Rattle.image_read.proofs.parts.pass_value.Goals as goal
 pub returns-in_err-record-clause-is : goal.returns-in_err-record-clause-is
 unfolding value
 returns-in_err-record-clause-is c =
-    let p = err_from_is_err_and c.from_residual.result c.from_residual.ensures.1 in
-    rw (p.1, p.2) (stops _ _ _ _ c.in_err-record.ensures.is)
+    rw (passed c.from_residual.result c.from_residual.ensures) (stops _ _ _ _ c.in_err-record.ensures.is)
 
 pub returns-in-Some-clause-is : goal.returns-in-Some-clause-is
 unfolding value

@@ -1,16 +1,14 @@
 use Rattle.std.proofs.Common.{[], ◌∷◌, ◌++◌, sym, ap, arith}
-use Rattle.std.proofs.lemmas.Result.{err_from_is_err_and}
 use Rattle.index.specs.declared.keyed.Keyed.{Keyed}
 use Rattle.index.specs.declared.link.EntryLink.{EntryLink}
 use Rattle.image_format.proofs.Linking.{entries_end, entries_err, entries_on}
 use Rattle.records.specs.Read.{place_of}
-use Rattle.records.proofs.Results.{told_ok}
+use Rattle.records.proofs.Results.{passed, told_ok}
 use Rattle.image_read.proofs.telling.tell_entries.Goals as goal
 
 pub returns-in_err-after-clause-is : goal.returns-in_err-after-clause-is
 returns-in_err-after-clause-is g c =
-    let p = err_from_is_err_and c.from_residual.result c.from_residual.ensures.1 in
-    rw (p.1, p.2) (λ ns es t. let i = c.loop-node.invariant.1 ns es t in i.2 _ (entries_err c.args.node i.0 (place_of c.loop-node.rest) _ (sym c.loop-node-test.ensures) c.in_err-after.ensures.is))
+    rw (passed c.from_residual.result c.from_residual.ensures) (λ ns es t. let i = c.loop-node.invariant.1 ns es t in i.2 _ (entries_err c.args.node i.0 (place_of c.loop-node.rest) _ (sym c.loop-node-test.ensures) c.in_err-after.ensures.is))
 
 pub loop-node-preserved : goal.loop-node-preserved
 loop-node-preserved g c =

@@ -1,10 +1,10 @@
-use Rattle.std.proofs.Common.{Option, None, Some, vec_items, refl, ◌∙◌}
-use Rattle.std.specs.Option.{IsSome, IfNone}
+use Rattle.std.proofs.Common.{vec_items, refl, ◌∙◌}
 use Rattle.std.proofs.lemmas.Result.{err_from_is_err_and}
 use Rattle.layout.specs.Tables.{document}
 use Rattle.layout.proofs.Making.{nodes_rise, entries_rise}
 use Rattle.layout.proofs.Reading.{made}
 use Rattle.table_check.specs.Given.{given as tables_in}
+use Rattle.index.proofs.Found.{is_there}
 use Rattle.table_links.proofs.links.link.Goals as goal
 
 pub returns-in_err-nodes : goal.returns-in_err-nodes
@@ -13,17 +13,12 @@ returns-in_err-nodes c =
     let p = err_from_is_err_and c.from_residual.result c.from_residual.ensures.1 in
     record { typed = c.note_source.ensures; law = made t (document t) refl; nodes = rw p.1 tt; entries = rw p.1 tt }
 
--- where it is wrong that nothing is there, something is
-there : {X : Type 0} {P : Type 0} (o : Option X) → IfNone o P → (P → ⊥) → IsSome o
-there None p wrong = absurd (wrong p)
-there (Some x) p wrong = refl
-
 pub unwrap-requires : goal.unwrap-requires
 unwrap-requires c =
     let t = tables_in c.args.source in
     let typed = c.note_source.ensures in
     let told = c.in_ok-nodes.ensures in
-    there c.new.result c.new.ensures.none (λ rise. rise (nodes_rise t typed (vec_items c.in_ok-nodes.nodes) told.nodes) (entries_rise t typed (vec_items c.in_ok-nodes.entries) told.entries))
+    is_there c.new.result c.new.ensures.none (λ rise. rise (nodes_rise t typed (vec_items c.in_ok-nodes.nodes) told.nodes) (entries_rise t typed (vec_items c.in_ok-nodes.entries) told.entries))
 
 pub returns : goal.returns
 returns c =
