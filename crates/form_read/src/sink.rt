@@ -59,8 +59,9 @@ impl<'a> FormSink<'a> for Keeper<'a> {
     }
 
     fn form(&mut self) -> Result<(), AllocError> {
-        let empty = Vec::new(*self.names.allocator());
-        self.forms.push(mem::replace(&mut self.names, empty))?;
+        // the form after it is taken to have as many names, so that its list seldom grows
+        let next = Vec::with_capacity(*self.names.allocator(), self.names.len())?;
+        self.forms.push(mem::replace(&mut self.names, next))?;
         Ok(())
     }
 }

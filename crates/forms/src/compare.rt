@@ -6,6 +6,21 @@ ghost use Rattle.forms.specs.Lent.{key_of};
 
 use super::key::Spelled;
 
+// Whether two names are equal.
+pub fn same(a: &[u8], b: &[u8]) -> bool
+    ensures { result ≡ bytes_eq a.now b.now }
+{
+    if a.len() != b.len() {
+        return false;
+    }
+    for (i, x) in a.iter().enumerate() {
+        if *x != b[i] {
+            return false;
+        }
+    }
+    true
+}
+
 // Whether the name is "#" and the digits of `i`; they are compared from the last one on.
 fn is_number(name: &[u8], i: u32) -> bool
     ensures { Decides result (name.now ≡ spelled (argument i)) }
@@ -32,7 +47,7 @@ fn is_number(name: &[u8], i: u32) -> bool
 fn is_property(name: &[u8], part: &[u8]) -> bool
     ensures { Decides result (name.now ≡ spelled (at_property part.now)) }
 {
-    name.strip_prefix(b"#@").is_some_and(|rest| rest == part)
+    name.strip_prefix(b"#@").is_some_and(|rest| same(rest, part))
 }
 
 // Whether the name is "#", the digits of `i`, and "#type".
@@ -56,14 +71,14 @@ pub fn spells(key: Spelled, name: &[u8]) -> bool
     ensures { result ≡ bytes_eq name.now (spelled (key_of key.entry)) }
 {
     match key {
-        Spelled::Name => name == b"#name".as_slice(),
-        Spelled::Type => name == b"#type".as_slice(),
+        Spelled::Name => same(name, b"#name"),
+        Spelled::Type => same(name, b"#type"),
         Spelled::ArgumentType(i) => is_number_type(name, i),
         Spelled::Argument(i) => is_number(name, i),
-        Spelled::Args => name == b"#args".as_slice(),
-        Spelled::Rest => name == b"#rest".as_slice(),
+        Spelled::Args => same(name, b"#args"),
+        Spelled::Rest => same(name, b"#rest"),
         Spelled::AtProperty(part) => is_property(name, part),
         Spelled::AtPropertyType(part) => is_property_type(name, part),
-        Spelled::Plain(part) => name == part,
+        Spelled::Plain(part) => same(name, part),
     }
 }

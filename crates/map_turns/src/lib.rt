@@ -7,3 +7,4 @@ pub mod node_map;
 pub mod omissions;
 pub mod properties;
 pub mod title;
+pub mod wants;

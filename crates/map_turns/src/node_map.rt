@@ -6,9 +6,9 @@ ghost use Rattle.forms.specs.Lent.{key_of};
 ghost use Rattle.map_stages.specs.declared.access.Turn.TheVariants as turn;
 ghost use Rattle.map_stages.specs.Coming.{form_in};
 
+use super::wants::wants;
 use forms::interface::Forms;
 use forms::key::Spelled;
-use forms::member::has_key;
 use map_stages::access::{Stage, Turn};
 use places::item::Item;
 use tree::handle::NodeHandle;
@@ -28,7 +28,7 @@ impl<T: Tree, F: Forms> NodeMap<'_, T, F> {
     pub fn wants(&self, key: Spelled) -> bool
         ensures { result ≡ has (form_in (F.Forms.meaning self.now.forms.now) self.now.form) (spelled (key_of key.entry)) }
     {
-        self.form.is_some_and(|form| has_key(self.forms, form, key))
+        wants(self.forms, self.form, key)
     }
 
     // The item where the form asks for the key, and the stage behind it.
