@@ -8,6 +8,7 @@ ghost use Rattle.tree.specs.Going.{name, entry_name, next_sibling, next_entry};
 ghost use Rattle.tree.specs.Limits.{Lawful};
 ghost use Rattle.tree.specs.Lent.{ident_of};
 ghost use Rattle.searches.specs.Searches.{ident_is};
+ghost use Rattle.searches.specs.Standing.{standing};
 ghost use Rattle.spots.specs.Rows.{nodes_from, entries_from};
 ghost use Rattle.spots.proofs.Onward.{nodes_onward, entries_onward};
 
@@ -75,24 +76,27 @@ impl Handle for EntryHandle {
     }
 }
 
-// The handles from one on.
+// The handles from one on. Where `passed`, the one at `at` was given, and what stands behind it is not asked for yet.
 #[derive(Drop)]
 pub(crate) struct Onward<'a, T, H> {
     pub tree: &'a T,
     pub at: Option<H>,
+    pub passed: bool,
 }
 
 impl<'a, T: Tree, H: Handle> Iterator for Onward<'a, T, H> {
     type Item = H;
 
-    ghost next_gives = { YieldsFirst (λ s. H.handles (T.Tree.meaning s.tree.now) s.at) };
+    ghost next_gives = { YieldsFirst (λ s. H.handles (T.Tree.meaning s.tree.now) (standing (H.next (T.Tree.meaning s.tree.now)) s.at s.passed)) };
 
-    ghost remaining = { item_count (λ s. H.handles (T.Tree.meaning s.tree.now) s.at) };
+    ghost remaining = { item_count (λ s. H.handles (T.Tree.meaning s.tree.now) (standing (H.next (T.Tree.meaning s.tree.now)) s.at s.passed)) };
 
     fn next(&mut self) -> Option<H> {
-        let h = self.at?;
-        self.at = h.next_in(self.tree);
-        Some(h)
+        if self.passed {
+            self.at = self.at?.next_in(self.tree);
+        }
+        self.passed = true;
+        self.at
     }
 }
 
@@ -107,12 +111,22 @@ pub(crate) fn has_name<T: Tree, H: Handle>(tree: &T, h: H, name: &[u8]) -> bool
 pub(crate) fn find_named<T: Tree, H: Handle>(tree: &T, start: Option<H>, name: &[u8]) -> Option<H>
     ensures { result ≡ find (λ h. ident_is (H.name (T.Tree.meaning tree.now) h) name.now) (H.handles (T.Tree.meaning tree.now) start) }
 {
-    Onward { tree, at: start }.find(|h| has_name(tree, *h, name))
+    Onward {
+        tree,
+        at: start,
+        passed: false,
+    }
+    .find(|h| has_name(tree, *h, name))
 }
 
 // Whether one from `start` on has the name.
 pub(crate) fn any_named<T: Tree, H: Handle>(tree: &T, start: Option<H>, name: &[u8]) -> bool
     ensures { result ≡ list_any (λ h. ident_is (H.name (T.Tree.meaning tree.now) h) name.now) (H.handles (T.Tree.meaning tree.now) start) }
 {
-    Onward { tree, at: start }.any(|h| has_name(tree, h, name))
+    Onward {
+        tree,
+        at: start,
+        passed: false,
+    }
+    .any(|h| has_name(tree, h, name))
 }
