@@ -19,6 +19,7 @@ pub fn index<'a>(heap: Global, bytes: &'a [u8]) -> Result<Vec<Vec<&'a [u8]>>, Al
     let mut keeper = Keeper {
         forms: Vec::new(heap),
         names: Vec::new(heap),
+        last: 0,
     };
     match tell_set(bytes, &mut keeper) {
         Ok(()) => Ok(keeper.forms),

@@ -46,6 +46,8 @@ impl<'a> FormSink<'a> for FormCounts {
 pub struct Keeper<'a> {
     pub forms: Vec<Vec<&'a [u8]>>,
     pub names: Vec<&'a [u8]>,
+    // how many names the last form has
+    pub last: usize,
 }
 
 impl<'a> FormSink<'a> for Keeper<'a> {
@@ -54,14 +56,18 @@ impl<'a> FormSink<'a> for Keeper<'a> {
     ghost told = { λ k fs ms. (forms_lent k.forms ≡ fs) × (form_lent k.names ≡ ms) };
 
     fn name(&mut self, name: &'a [u8]) -> Result<(), AllocError> {
+        if self.names.is_empty() {
+            // a form is taken to have as many names as the one before it, so that its list seldom grows
+            self.names.reserve(self.last)?;
+        }
         self.names.push(name)?;
         Ok(())
     }
 
     fn form(&mut self) -> Result<(), AllocError> {
-        // the form after it is taken to have as many names, so that its list seldom grows
-        let next = Vec::with_capacity(*self.names.allocator(), self.names.len())?;
-        self.forms.push(mem::replace(&mut self.names, next))?;
+        self.last = self.names.len();
+        let empty = Vec::new(*self.names.allocator());
+        self.forms.push(mem::replace(&mut self.names, empty))?;
         Ok(())
     }
 }

@@ -47,7 +47,8 @@ fn is_number(name: &[u8], i: u32) -> bool
 fn is_property(name: &[u8], part: &[u8]) -> bool
     ensures { Decides result (name.now ≡ spelled (at_property part.now)) }
 {
-    name.strip_prefix(b"#@").is_some_and(|rest| same(rest, part))
+    name.strip_prefix(b"#@")
+        .is_some_and(|rest| same(rest, part))
 }
 
 // Whether the name is "#", the digits of `i`, and "#type".
@@ -66,8 +67,9 @@ fn is_property_type(name: &[u8], part: &[u8]) -> bool
         .is_some_and(|front| is_property(front, part))
 }
 
-// Whether the name is what the key spells.
-pub fn spells(key: Spelled, name: &[u8]) -> bool
+// Whether the name is what the key spells. It stands where it is called, since callers mostly know the kind of the key.
+#[inline(always)]
+pub(crate) fn is_spelled(key: Spelled, name: &[u8]) -> bool
     ensures { result ≡ bytes_eq name.now (spelled (key_of key.entry)) }
 {
     match key {
@@ -81,4 +83,11 @@ pub fn spells(key: Spelled, name: &[u8]) -> bool
         Spelled::AtPropertyType(part) => is_property_type(name, part),
         Spelled::Plain(part) => same(name, part),
     }
+}
+
+// The same, for other crates.
+pub fn spells(key: Spelled, name: &[u8]) -> bool
+    ensures { result ≡ bytes_eq name.now (spelled (key_of key.entry)) }
+{
+    is_spelled(key, name)
 }
