@@ -7,9 +7,13 @@ use Rattle.records.specs.declared.stop.Stop.{Stop}
 use Rattle.records.specs.declared.stop.Stop.TheVariants.{Fault, Sink}
 use Rattle.forms.specs.Forms.{Form}
 use Rattle.form_format.specs.Reading.{filled, form_part, form, set_in}
-use Rattle.form_format.proofs.Going.{Going, going_fault}
-use Rattle.form_format.proofs.Steps.{names_refused}
+use Rattle.form_format.proofs.Going.{Going, going_start, going_fault}
+use Rattle.form_format.proofs.Steps.{form_shrinks, names_refused}
 use Rattle.form_read.specs.Told.{ToldNames, ToldForms, ToldSet}
+
+-- a set that is not too long is read from its start on
+pub set_start : (bs : List ℕ) → length bs ≤ 1048576 → Going form (set_in bs) [] 0 (start bs)
+set_start bs short g l = going_start form form_shrinks (start bs) g l ∙ sym (cond-false _ _ _ (le-ltb 1048576 (length bs) short))
 
 module _ (told : List Form → Form → Type 0) {E : Type 0} where
   -- the names of the form at p, behind the forms fs, were not told to their end

@@ -1,5 +1,5 @@
 -- Names by position, and the form from a position on. Assumes nothing.
-use Rattle.std.proofs.Common.{◌≡◌, ℕ, zero, suc, ◌+◌, ◌<◌, ◌≤◌, true, false, cond, ◌||◌, List, [], ◌∷◌, map, length, drop, drop_of_length-le, position, Some, None, sym, refl, ap, ◌∙◌, add-one, arith}
+use Rattle.std.proofs.Common.{◌≡◌, ℕ, zero, suc, ◌+◌, ◌<◌, ◌≤◌, true, false, cond, ◌||◌, List, [], ◌∷◌, map, length, get_or, drop, drop_of_length-le, position, Some, None, sym, refl, ap, ◌∙◌, add-one, arith}
 use Rattle.std.specs.List.{AllByRecursion, position_from as passing}
 use Rattle.std.proofs.lemmas.Iterator.Adapters.{position_from-zero}
 use Rattle.std.specs.Str.{bytes_eq}
@@ -18,6 +18,17 @@ module _ {X : Type 0} where
   nth_none [] (suc i) e = refl
   nth_none (y ∷ ys) zero e = let z : ◌≡◌ {A = ℕ} 0 1 = cc in absurd (omega arith)
   nth_none (y ∷ ys) (suc i) e = nth_none ys i e
+
+module _ {X Y : Type 0} (f : X → Y) where
+  pub nth_map : (d : X) (xs : List X) (i : ℕ) → i < length xs → nth (map f xs) i ≡ Some (f (get_or xs i d))
+  nth_map d [] i h = absurd (omega arith)
+  nth_map d (x ∷ xs) zero h = refl
+  nth_map d (x ∷ xs) (suc i) h = nth_map d xs i (omega arith)
+
+  pub nth_map_past : (xs : List X) (i : ℕ) → length xs ≤ i → nth (map f xs) i ≡ None
+  nth_map_past [] i h = refl
+  nth_map_past (x ∷ xs) zero h = absurd (omega arith)
+  nth_map_past (x ∷ xs) (suc i) h = nth_map_past xs i (omega arith)
 
 all_fit : (fs : List Form) (i : ℕ) → AllByRecursion FormFits fs → length (form_of fs i) ≤ 65535
 all_fit [] i h = omega arith
@@ -44,6 +55,19 @@ position_below fs i j x l e = let h = nth_below (form_of fs i) j x e in let few 
 -- nothing stands past the last position
 pub has_over : (fs : List Form) (i : ℕ) (m : List ℕ) (j : ℕ) → Lawful fs → has (drop j (form_of fs i)) m ≡ has (form_of fs i) m → 65535 ≤ j → false ≡ has (form_of fs i) m
 has_over fs i m j l so h = ap (λ k. has k m) (sym (drop_of_length-le (form_of fs i) (omega (arith, form_few fs i l)))) ∙ so
+
+-- the first position, from a position on
+pub position_found : (f : Form) (m x : List ℕ) (i : ℕ) → position_from i (drop i f) m ≡ position_from 0 f m → nth f i ≡ Some x → true ≡ bytes_eq x m → Some i ≡ position_from 0 f m
+position_found f m x i so e t = ap (λ b. cond b (Some i) (position_from (suc i) (drop (i + 1) f) m)) t ∙ sym (ap (λ l. position_from i l m) (nth_some f i x e)) ∙ so
+
+pub position_more : (f : Form) (m x : List ℕ) (i : ℕ) → position_from i (drop i f) m ≡ position_from 0 f m → nth f i ≡ Some x → false ≡ bytes_eq x m → position_from (i + 1) (drop (i + 1) f) m ≡ position_from 0 f m
+position_more f m x i so e t =
+    ap (λ j. position_from j (drop (i + 1) f) m) (add-one i)
+    ∙ ap (λ b. cond b (Some i) (position_from (suc i) (drop (i + 1) f) m)) t
+    ∙ sym (ap (λ l. position_from i l m) (nth_some f i x e)) ∙ so
+
+pub position_none : (f : Form) (m : List ℕ) (i : ℕ) → position_from i (drop i f) m ≡ position_from 0 f m → nth f i ≡ None → None ≡ position_from 0 f m
+position_none f m i so e = sym (ap (λ l. position_from i l m) (nth_none f i e)) ∙ so
 
 -- the first position of a name is that of the first name that equals it
 position_same : {X : Type 0} (f : X → List ℕ) (m : List ℕ) (i : ℕ) (xs : List X) → position_from i (map f xs) m ≡ passing (λ x. bytes_eq (f x) m) i xs

@@ -1,6 +1,8 @@
 -- What is read at the handle of a node or an entry of a sound image. Assumes nothing.
 use Rattle.std.proofs.Common.{◌≡◌, ℕ, ◌^◌, ◌<◌, Bool, true, false, cond, eqb, ltb, List, [], ◌∷◌, ◌++◌, length, take, drop, Some, None, Ok, Err, Option, Result, sym, refl, ap, ◌∙◌, subst, append_assoc, append-nil, arith, length-append}
-use Rattle.std.proofs.lemmas.Bool.{le-ltb}
+use Rattle.std.proofs.lemmas.Bool.{le-ltb, eq-eqb, eqb-true, cond-true, cond-false}
+use Rattle.std.proofs.lemmas.List.{take_all, length-drop}
+use Rattle.index.proofs.Found.{none_some}
 use Rattle.tree.specs.declared.span.Span.{Span}
 use Rattle.tree.specs.declared.value.Integer.{Integer}
 use Rattle.tree.specs.Document.{Ident, Value, null, string, integer, float, bool, Entry, Head, Node, node, head_in}
@@ -200,3 +202,24 @@ abbrev pub flag_in : List ℕ → Option Bool
 flag_in [] = None
 flag_in (x ∷ []) = cond (eqb x 0) (Some false) (cond (eqb x 1) (Some true) None)
 flag_in (x ∷ y ∷ ys) = None
+
+some_some : {X : Type 0} {x y : X} → ◌≡◌ {A = Option X} (Some x) (Some y) → x ≡ y
+some_some e = cc
+
+module _ (bs b : List ℕ) (k : ℕ) (kind : k ≡ next_kind bs) (body : b ≡ body_in bs) where
+  pub at_integer : (n : Integer) → k ≡ 8 → Some n ≡ integer_in b → integer n ≡ value_at bs
+  at_integer n is h = go (eqb (length b) 16) refl ∙ (λ i. held_value (value_in ((sym is ∙ kind) i) (body i)))
+    where
+      go : (x : Bool) → eqb (length b) 16 ≡ x → integer n ≡ held_value (value_in 8 b)
+      go true e =
+          let l = eqb-true (length b) 16 e in
+          let m = length-drop 8 b in
+          let same : n ≡ record { high = signed (number (take 8 (drop 8 b))); low = number (take 8 b) } = some_some (h ∙ cond-true _ _ _ e) in
+          let whole : take 8 (drop 8 b) ≡ drop 8 b = take_all 8 (drop 8 b) (omega arith) in
+          ap integer same ∙ ap (λ w. integer (record { high = signed (number w); low = number (take 8 b) })) whole ∙ sym (ap held_value (cond-true _ _ _ e))
+      go false e = none_some n (sym (h ∙ cond-false _ _ _ e))
+
+  pub at_float : (x : ℕ) → k ≡ 9 → length b ≡ 8 → x ≡ number (take 8 b) → float x ≡ value_at bs
+  at_float x is l h =
+      let whole : take 8 b ≡ b = take_all 8 b (omega arith) in
+      ap float (h ∙ ap number whole) ∙ sym (ap held_value (cond-true _ _ _ (eq-eqb (length b) 8 l))) ∙ (λ i. held_value (value_in ((sym is ∙ kind) i) (body i)))

@@ -1,11 +1,21 @@
 -- What the steps of the code come to. Assumes nothing.
-use Rattle.std.proofs.Common.{◌≡◌, ℕ, ◌+◌, ◌-◌, ◌<◌, ◌≤◌, List, length, take, drop, Ok, sym, ◌∙◌, arith, length-drop, take_all}
+use Rattle.std.proofs.Common.{◌≡◌, ℕ, ◌+◌, ◌-◌, ◌<◌, ◌≤◌, List, length, take, drop, Ok, Err, sym, ap, ◌∙◌, arith, length-drop, take_all}
 use Rattle.std.proofs.lemmas.Bool.{lt-ltb, le-ltb, lt-leb, cond-false}
 use Rattle.tree.specs.Outcome.{over}
+use Rattle.records.specs.declared.fault.Cause.{Cause}
 use Rattle.records.specs.declared.fault.Cause.TheVariants.{Body, Nesting}
-use Rattle.image_format.specs.Reading.{Place, Part, fault, part_of, spanned, fore}
+use Rattle.records.specs.Records.{Cut, cut}
+use Rattle.image_format.specs.Reading.{Place, Part, fault, located, placed, part, part_of, spanned, fore}
 use Rattle.image_format.proofs.Passing.{behind, aside, fore_passes}
 use Rattle.image_format.proofs.Runs.{stop, go}
+
+pub part_refused : (p : Place) (c : Cause) → Err c ≡ cut p.bytes → fault p c ≡ part p
+unfolding part
+part_refused p c e = ap (λ m. over (placed p) (located p m)) e
+
+pub part_found : (p : Place) (c : Cut) → Ok c ≡ cut p.bytes → Ok (placed p c) ≡ part p
+unfolding part
+part_found p c e = ap (λ m. over (placed p) (located p m)) e
 
 pub spanned_short : (p b : Place) → length b.bytes < 8 → fault p Body ≡ over behind (spanned p b)
 unfolding spanned

@@ -1,5 +1,5 @@
 // Values under rising numbers, looked up by binary search.
-ghost use Rattle.std.specs.Prelude.{◌≡◌, MatchOption};
+ghost use Rattle.std.specs.Prelude.{◌≡◌, MatchBool, MatchOption};
 ghost use Rattle.tree.specs.Numbers.{Rising};
 ghost use Rattle.index.specs.Keys.{keys, first_key, lookup};
 
@@ -11,12 +11,26 @@ pub struct Index<V> {
     ghost rising: { Rising (keys items.items) },
 }
 
+// Whether each item has a higher number than the one before it.
+fn rises<V: Copy>(items: &[Keyed<V>]) -> bool
+    ensures { MatchBool result (Rising (keys items.now)) (Rising (keys items.now) → ⊥) }
+{
+    let mut i = 1;
+    while i < items.len() {
+        if items[i - 1].key >= items[i].key {
+            return false;
+        }
+        i += 1;
+    }
+    true
+}
+
 impl<V: Copy> Index<V> {
     // The items, if their numbers rise.
     pub fn new(items: Vec<Keyed<V>>) -> Option<Index<V>>
         ensures { MatchOption result (Rising (keys items.items) → ⊥) (λ x. x.items.items ≡ items.items) }
     {
-        if items.is_sorted_by(|a, b| a.key < b.key) {
+        if rises(&items) {
             Some(Index { items })
         } else {
             None

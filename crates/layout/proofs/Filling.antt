@@ -167,6 +167,9 @@ rows_more t i xs one lt e =
     ∙ ap (λ n. xs ++ entry_links (A ++ rows_entries t n (drop (i + 1) t.nodes))) (add-one i)
     ∙ ap (λ l. xs ++ entry_links (rows_entries t i l)) (sym (drop_more t.nodes i blank lt))
 
+pub rows_end : (t : Tables) (i : ℕ) (xs : List (Keyed EntryLink)) → length t.nodes ≤ i → xs ++ entry_links (rows_entries t i (drop i t.nodes)) ≡ xs
+rows_end t i xs ge = ap (λ l. xs ++ entry_links (rows_entries t i l)) (drop_all i t.nodes ge) ∙ append-nil xs
+
 -- one entry row more of a node's
 pub picked_more : (t : Tables) (h : NodeHandle) (k to : ℕ) (xs one : List (Keyed EntryLink)) → k < to → to ≤ length t.entries
     → one ≡ xs ++ record { key = k; value = record { node = h; next = first_entry_row (k + 1) to } } ∷ []
@@ -186,6 +189,11 @@ picked_more t h k to xs one lt within e =
     ∙ append_assoc xs _ (entry_links (entries_from h rest))
     ∙ (λ j. xs ++ record { key = k; value = record { node = h; next = sym after j } } ∷ entry_links (entries_from h rest))
     ∙ ap (λ l. xs ++ entry_links (entries_from h l)) (sym front)
+
+pub picked_end : (t : Tables) (h : NodeHandle) (k to : ℕ) (xs : List (Keyed EntryLink)) → to ≤ k → xs ++ entry_links (entries_from h (picked t k (to - k))) ≡ xs
+picked_end t h k to xs ge =
+    let z : to - k ≡ 0 = omega arith in
+    ap (λ n. xs ++ entry_links (entries_from h (picked t k n))) z ∙ append-nil xs
 
 -- each node row's entries are there
 abbrev pub Rooms : Tables → Type 0

@@ -178,3 +178,16 @@ judges_on t d i to r lt is inner rest (suc f) enough =
     over_then (rows t f d (next t i) to) (λ more. cons (node (record { number = i }) (head t (row t i)) (block_of (row t i).block b.value)) more) r (rest f (omega arith))
     ∙ ap (λ o. over (λ _. tt) (and_then o (λ ins. and_then (rows t f d (next t i) to) (λ more. Ok (cons (node (record { number = i }) (head t (row t i)) (block_of (row t i).block ins)) more))))) (sym b.is)
     ∙ ap (λ o. over (λ _. tt) (and_then o (λ _. behind t f d i to))) is ∙ ap (over (λ _. tt)) (sym (rows_some t f d i to lt))
+
+-- the same of entry rows: at row k, and behind it
+pub entries_here : (t : Tables) (k : ℕ) (e : TableFault) → k < length t.entries → Err e ≡ judged Table.Entries k (entry_cause t k (entry_row t k)) → Err e ≡ entry_rows t k (drop k t.entries)
+entries_here t k e lt is =
+    ap (λ o. and_then o (λ _. entry_rows t (suc k) (drop (k + 1) t.entries))) is ∙ ap (entry_rows t k) (sym (drop_more t.entries k blank_entry lt))
+
+pub entries_on : (t : Tables) (k : ℕ) → k < length t.entries → Ok tt ≡ judged Table.Entries k (entry_cause t k (entry_row t k)) → entry_rows t (k + 1) (drop (k + 1) t.entries) ≡ entry_rows t k (drop k t.entries)
+entries_on t k lt is =
+    ap (λ n. entry_rows t n (drop (k + 1) t.entries)) (add-one k)
+    ∙ ap (λ o. and_then o (λ _. entry_rows t (suc k) (drop (k + 1) t.entries))) is ∙ ap (entry_rows t k) (sym (drop_more t.entries k blank_entry lt))
+
+pub entries_none : (t : Tables) (k : ℕ) → length t.entries ≤ k → Ok tt ≡ entry_rows t k (drop k t.entries)
+entries_none t k ge = ap (entry_rows t k) (sym (drop_all k t.entries ge))

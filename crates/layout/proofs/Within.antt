@@ -2,7 +2,7 @@
 use Rattle.std.proofs.Common.{◌≡◌, ℕ, ◌+◌, ◌^◌, ◌<◌, ◌≤◌, Bool, true, ltb, List, [], ◌∷◌, ◌++◌, length, get_or, take, drop, ℤ, pos, negsuc, Some, None, Ok, Err, Option, Result, sym, refl, ap, ◌∙◌, subst, arith, length-drop}
 use Rattle.std.specs.List.{AllByRecursion}
 use Rattle.std.proofs.ByRecursion.{All-get_or, All-take, All-drop}
-use Rattle.std.proofs.lemmas.Bool.{and_parts, ltb-true, leb-true, false≢true}
+use Rattle.std.proofs.lemmas.Bool.{and_parts, and_from, ltb-true, leb-true, false≢true}
 use Rattle.std.proofs.lemmas.List.{length-take-le, take_more, take_all}
 use Rattle.tree.specs.declared.span.Span.{Span}
 use Rattle.tree.specs.Document.{Nodes, nil, handle_in}
@@ -25,6 +25,21 @@ use Rattle.layout.proofs.Placed.{upto_rising, NodeStands, node_stands, node_numb
 pub each_all : {X : Type 0} (p : X → Bool) (xs : List X) → each p xs ≡ true → AllByRecursion (λ x. p x ≡ true) xs
 each_all p [] e = tt
 each_all p (x ∷ xs) e = let a = and_parts (p x) (each p xs) e in (a.0, each_all p xs a.1)
+
+pub each_from : {X : Type 0} (p : X → Bool) (xs : List X) → AllByRecursion (λ x. p x ≡ true) xs → each p xs ≡ true
+each_from p [] a = refl
+each_from p (x ∷ xs) a = and_from (p x) (each p xs) a.0 (each_from p xs a.1)
+
+each_append : {X : Type 0} (p : X → Bool) (xs ys : List X) → each p xs ≡ true → each p ys ≡ true → each p (xs ++ ys) ≡ true
+each_append p [] ys a b = b
+each_append p (x ∷ xs) ys a b = let q = and_parts (p x) (each p xs) a in and_from (p x) (each p (xs ++ ys)) q.0 (each_append p xs ys q.1 b)
+
+-- one element more
+pub each_more : {X : Type 0} (p : X → Bool) (xs : List X) (i : ℕ) (d : X) → i < length xs → each p (take i xs) ≡ true → p (get_or xs i d) ≡ true → each p (take (i + 1) xs) ≡ true
+each_more p xs i d lt a b = ap (each p) (take_more xs i d lt) ∙ each_append p (take i xs) (get_or xs i d ∷ []) a (and_from _ true b refl)
+
+pub each_whole : {X : Type 0} (p : X → Bool) (xs : List X) (i : ℕ) → length xs ≤ i → each p (take i xs) ≡ true → each p xs ≡ true
+each_whole p xs i ge a = ap (each p) (sym (take_all i xs ge)) ∙ a
 
 all_through : {X : Type 0} (P Q : X → Type 0) → ((x : X) → P x → Q x) → (xs : List X) → AllByRecursion P xs → AllByRecursion Q xs
 all_through P Q f [] a = tt

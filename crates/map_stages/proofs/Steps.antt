@@ -99,6 +99,9 @@ module _ (d : Nodes) (law : Lawful d) (fs : List Form) (h : NodeHandle) (form : 
   first_row : entry_row d (first_of (head_in n).entries) ≡ (head_in n).entries
   first_row = entry_row_first d law h s is
 
+  pub step_name : Step stage.Name stage.«Type» (asked f name (identifier (head_in n).name))
+  step_name = record { list = refl; falls = omega arith }
+
   type_falls : left d fs h form (stage.ArgumentType (first_of (head_in n).entries) 0) < left d fs h form stage.«Type»
   type_falls = let a = ap length first_row in let b = ap length entries_is in omega arith
 
@@ -222,6 +225,12 @@ module _ (d : Nodes) (law : Lawful d) (fs : List Form) (h : NodeHandle) (form : 
         falls = omega arith;
       }
 
+      pub step_property_no_type : x.self.type ≡ None → Step (stage.PropertyType e) (stage.Property e) []
+      step_property_no_type typed = record {
+        list = type_list ∙ (λ j. if_some (typed j) (λ z. asked f (at_property_type m.bytes) (identifier z)) ++ sym plain_list j);
+        falls = omega arith;
+      }
+
       pub step_property : Step (stage.Property e) (stage.AtProperty (first_of x.after)) (plain_property (property_of x.self m) ∷ [])
       step_property =
           let a = ap length after_here in
@@ -230,6 +239,14 @@ module _ (d : Nodes) (law : Lawful d) (fs : List Form) (h : NodeHandle) (form : 
 
     -- an entry without a name gives nothing as a property
     module _ (named : x.self.name ≡ None) where
+      pub step_no_property_type : Step (stage.PropertyType e) (stage.Property e) []
+      step_no_property_type = record {
+        list =
+            ap (λ o. property_type f n o ++ (property_plain f n (self_of (found_entry d e)) ++ from_properties f n (after_of (found_entry d e)))) self_here
+            ∙ ap (λ o. if_some o (λ z. if_some x.self.type (λ t. asked f (at_property_type z.bytes) (identifier t))) ++ (property_plain f n (self_of (found_entry d e)) ++ from_properties f n (after_of (found_entry d e)))) named;
+        falls = omega arith;
+      }
+
       pub step_no_property : Step (stage.Property e) (stage.AtProperty (first_of x.after)) []
       step_no_property =
           let a = ap length after_here in
@@ -248,8 +265,17 @@ module _ (d : Nodes) (law : Lawful d) (fs : List Form) (h : NodeHandle) (form : 
     unfolding numbered
     step_no_argument i = record { list = (λ j. argument_itself f n i (self_of (gone j)) ++ from_arguments f n (suc i) (after_of (gone j))); falls = omega arith }
 
+    pub step_lost_type : Step (stage.PropertyType e) (stage.Property e) []
+    step_lost_type = record {
+      list = ap (λ o. property_type f n (self_of o) ++ (property_plain f n (self_of (found_entry d e)) ++ from_properties f n (after_of (found_entry d e)))) gone;
+      falls = omega arith;
+    }
+
     pub step_lost_property : Step (stage.Property e) (stage.AtProperty None) []
     step_lost_property = record { list = (λ j. property_plain f n (self_of (gone j)) ++ from_properties f n (after_of (gone j))); falls = omega arith }
+
+  pub step_args : Step stage.Args stage.Rest (asked f args (arg_list (arguments n)))
+  step_args = record { list = refl; falls = omega arith }
 
   pub step_rest : Step stage.Rest (stage.AtProperty (first_of (head_in n).entries)) (asked f rest (arg_list (unasked f (arguments n))))
   step_rest =

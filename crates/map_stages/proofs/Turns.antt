@@ -29,7 +29,7 @@ use Rattle.map_stages.specs.declared.access.Turn.{Turn}
 use Rattle.map_stages.specs.declared.access.Turn.TheVariants.{End, Pass, Give}
 use Rattle.map_stages.specs.Coming.{form_in}
 use Rattle.map_stages.specs.Turning.{Moves}
-use Rattle.map_stages.proofs.Steps.{Step, passed, given, asked_given, asked_passed, step_type, step_no_type, step_arguments_end, step_pass_property, step_argument_type, step_argument_no_type, step_argument, step_argument_last, step_pass_argument, step_overridden, step_at_property, step_property_type, step_property, step_no_property, step_no_argument, step_lost_property, step_rest, step_properties_end, step_groups_end, step_group, omissions_end, step_omission}
+use Rattle.map_stages.proofs.Steps.{Step, passed, given, asked_given, asked_passed, step_type, step_no_type, step_arguments_end, step_pass_property, step_argument_type, step_argument_no_type, step_argument, step_argument_last, step_pass_argument, step_overridden, step_at_property, step_property_type, step_property_no_type, step_property, step_no_property_type, step_no_property, step_no_argument, step_lost_type, step_lost_property, step_rest, step_properties_end, step_groups_end, step_group, omissions_end, step_omission}
 
 -- an entry that has a span stands in the document, and one that has none does not
 pub there : (d : Nodes) (e : EntryHandle) (sp : Span) → Some sp ≡ entry_span d e → (x : EntrySpot) × (found_entry d e ≡ Some x)
@@ -211,7 +211,19 @@ module _ (d : Nodes) (law : Lawful d) (fs : List Form) (h : NodeHandle) (form : 
           (ap (item_meant d fs) q ∙ (λ j. item (at_property (bytes_meant e x.0 x.1 m a j)) (value_meant e x.0 x.1 j))))
 
   -- the type of a property
+  pub property_unnamed : (e : EntryHandle) → None ≡ entry_name d e → Moves d fs h form (stage.PropertyType e) (Pass (stage.Property e))
+  property_unnamed e a = go (found_entry d e) refl
+    where
+      go : (o : Option EntrySpot) → found_entry d e ≡ o → Moves d fs h form (stage.PropertyType e) (Pass (stage.Property e))
+      go None q = passed d law fs h form s is _ _ (step_lost_type d law fs h form s is e q)
+      go (Some x) q = passed d law fs h form s is _ _ (step_no_property_type d law fs h form s is e x q (sym (a ∙ name_is e x q)))
+
   module _ (e : EntryHandle) (m : Ident) (a : Some m ≡ entry_name d e) where
+    pub property_untyped : None ≡ entry_type d e → Moves d fs h form (stage.PropertyType e) (Pass (stage.Property e))
+    property_untyped b =
+        let x = named_there d e m a in
+        passed d law fs h form s is _ _ (step_property_no_type d law fs h form s is e x.0 x.1 m x.2 (sym (b ∙ entry_type_is e x.0 x.1)))
+
     pub property_type_passed : (t : Ident) → Some t ≡ entry_type d e → false ≡ has f (spelled (at_property_type m.bytes)) → Moves d fs h form (stage.PropertyType e) (Pass (stage.Property e))
     property_type_passed t b c =
         let x = named_there d e m a in

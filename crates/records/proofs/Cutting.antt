@@ -1,5 +1,5 @@
 -- Writing a record and cutting one off are one another's inverse. Assumes nothing.
-use Rattle.std.proofs.Common.{◌≡◌, ℕ, ◌+◌, ◌-◌, ◌^◌, ◌<◌, ◌≤◌, Bool, true, false, cond, ◌||◌, eqb, ltb, ◌⊎◌, List, [], ◌∷◌, ◌++◌, length, take, drop, Some, None, Ok, Err, sym, refl, ap, ◌∙◌, subst, ⊎_elim, arith, length-append, length-drop, take-append-drop, length-take-le, take_at, drop_at}
+use Rattle.std.proofs.Common.{◌≡◌, ℕ, ◌+◌, ◌-◌, ◌*◌, ◌^◌, ◌<◌, ◌≤◌, Bool, true, false, cond, ◌||◌, eqb, ltb, ◌⊎◌, List, [], ◌∷◌, ◌++◌, length, get_or, take, drop, Some, None, Ok, Err, Option, sym, refl, ap, ◌∙◌, subst, ⊎_elim, arith, length-append, length-drop, take-append-drop, length-take-le, take_all, take_at, drop_at}
 use Rattle.std.proofs.ByRecursion.{All-take, All-drop}
 use Rattle.std.proofs.lemmas.Bool.{ne_eqb, lt-ltb, le-ltb, ltb-false, or_parts}
 use Rattle.records.specs.Numbers.{Bytes, number, low}
@@ -19,6 +19,22 @@ none_length (x ∷ xs) = sym (ne_eqb (length (x ∷ xs)) 0 (λ e. omega arith))
 pub some_bytes : (k : ℕ) (b rest : List ℕ) → none (record_of k b ++ rest) ≡ false
 unfolding record_of
 some_bytes k b rest = refl
+
+-- what the head of some bytes is
+pub marked : (xs rest : List ℕ) (s k : ℕ) → 6 ≤ length xs
+    → s ≡ get_or xs 0 0 + get_or xs 1 0 * 256 + get_or xs 2 0 * 65536 + get_or xs 3 0 * 16777216 → k ≡ get_or xs 4 0 + get_or xs 5 0 * 256 → rest ≡ take (length xs - 6) (drop 6 xs)
+    → Some (record { size = s; kind = k; rest = rest }) ≡ mark xs
+marked [] rest s k l e f g = absurd (omega arith)
+marked (a1 ∷ []) rest s k l e f g = absurd (omega arith)
+marked (a1 ∷ a2 ∷ []) rest s k l e f g = absurd (omega arith)
+marked (a1 ∷ a2 ∷ a3 ∷ []) rest s k l e f g = absurd (omega arith)
+marked (a1 ∷ a2 ∷ a3 ∷ a4 ∷ []) rest s k l e f g = absurd (omega arith)
+marked (a1 ∷ a2 ∷ a3 ∷ a4 ∷ k1 ∷ []) rest s k l e f g = absurd (omega arith)
+marked (a1 ∷ a2 ∷ a3 ∷ a4 ∷ k1 ∷ k2 ∷ xs) rest s k l e f g =
+    let size : s ≡ number (a1 ∷ a2 ∷ a3 ∷ a4 ∷ []) = omega arith in
+    let kind : k ≡ number (k1 ∷ k2 ∷ []) = omega arith in
+    let all : rest ≡ xs = g ∙ take_all _ xs (omega arith) in
+    λ i. Some (record { size = size i; kind = kind i; rest = all i })
 
 either_way : {X : Type 0} (b : Bool) (x y : X) → cond (b || true) x y ≡ x
 either_way true x y = refl
@@ -107,6 +123,20 @@ next_record k b rest small = number_low 2 k small
 
 none_some : {X Y : Type 0} (x : X) → None ≡ Some x → Y
 none_some x e = absurd (let z : ◌≡◌ {A = ℕ} 0 1 = cc in omega arith)
+
+rest_or : List ℕ → Option Mark → List ℕ
+rest_or xs None = xs
+rest_or xs (Some m) = m.rest
+
+pub marked_long : (xs : List ℕ) (m : Mark) → Some m ≡ mark xs → length m.rest + 6 ≡ length xs
+unfolding rest_or
+marked_long [] m e = none_some m (sym e)
+marked_long (a1 ∷ []) m e = none_some m (sym e)
+marked_long (a1 ∷ a2 ∷ []) m e = none_some m (sym e)
+marked_long (a1 ∷ a2 ∷ a3 ∷ []) m e = none_some m (sym e)
+marked_long (a1 ∷ a2 ∷ a3 ∷ a4 ∷ []) m e = none_some m (sym e)
+marked_long (a1 ∷ a2 ∷ a3 ∷ a4 ∷ k1 ∷ []) m e = none_some m (sym e)
+marked_long (a1 ∷ a2 ∷ a3 ∷ a4 ∷ k1 ∷ k2 ∷ xs) m e = let f : m.rest ≡ xs = ap (rest_or xs) e in let g = ap length f in omega arith
 
 -- a record is as long as its head, its body and what follows it
 pub cut_size : (xs : List ℕ) (c : Cut) → cut xs ≡ Ok c → length c.body + length c.rest + 6 ≡ length xs

@@ -14,7 +14,7 @@ use Rattle.lists.specs.Properties.{is_property}
 use Rattle.lists.specs.Groups.{called, is_child, those_called}
 use Rattle.searches.specs.Searches.{is_called, ident_is, is_named, NextCalled}
 
-property_head : (m : List ℕ) (x : Entry) (es : List Entry) → is_property (properties_in (x ∷ es)) m ≡ (ident_is x.name m || is_property (properties_in es) m)
+pub property_head : (m : List ℕ) (x : Entry) (es : List Entry) → is_property (properties_in (x ∷ es)) m ≡ (ident_is x.name m || is_property (properties_in es) m)
 property_head m x es = go x.name
   where
     go : (o : Option Ident) → is_property (property_then o x (properties_in es)) m ≡ (ident_is o m || is_property (properties_in es) m)

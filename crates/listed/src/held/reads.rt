@@ -17,6 +17,11 @@ impl<'a> Forms for ListedForms<'a> {
 
     fn name(&self, form: u32, position: u32) -> Option<&[u8]> {
         let names = self.forms.get(form as usize)?;
-        names.get(position as usize).copied()
+        let at = position as usize;
+        if at < names.len() {
+            Some(names[at])
+        } else {
+            None
+        }
     }
 }
