@@ -85,8 +85,7 @@ pub(crate) fn is_spelled(key: Spelled, name: &[u8]) -> bool
     }
 }
 
-// The same, called: once in each loop over the names of a form.
-#[inline(never)]
+// The same, for other crates.
 pub fn spells(key: Spelled, name: &[u8]) -> bool
     ensures { result ≡ bytes_eq name.now (spelled (key_of key.entry)) }
 {

@@ -5,7 +5,7 @@ ghost use Rattle.forms.specs.Keys.{spelled};
 ghost use Rattle.forms.specs.Lent.{key_of};
 ghost use Rattle.forms.specs.Fixed.{fixed_forms, fixed_lawful};
 
-use super::compare::spells;
+use super::compare::is_spelled;
 use super::interface::Forms;
 use super::key::Spelled;
 
@@ -46,7 +46,12 @@ impl FixedForms {
     pub fn position(self, form: u32, key: Spelled) -> Option<u32>
         ensures { result ≡ position_of (form_of fixed_forms form) (spelled (key_of key.entry)) }
     {
-        let position = names(form).iter().position(|name| spells(key, name))?;
-        Some(position as u32)
+        let names = names(form);
+        for (i, name) in names.iter().enumerate() {
+            if is_spelled(key, name) {
+                return Some(i as u32);
+            }
+        }
+        None
     }
 }

@@ -1,24 +1,35 @@
-use Rattle.std.proofs.Common.{◌≡◌, rules, sym, ◌∙◌}
-use Rattle.std.specs.Str.{bytes_eq}
-use Rattle.std.proofs.lemmas.Iterator.{YieldsList-from_slice}
-use Rattle.std.proofs.lemmas.Iterator.Search.{position_from_yields_List}
-use Rattle.forms.specs.Forms.{form_of, position_of}
-use Rattle.forms.specs.Fixed.{fixed_forms}
+use Rattle.std.proofs.Common.{length, sym, refl, ap, ◌∙◌, arith}
+use Rattle.std.proofs.lemmas.List.{length-map}
+use Rattle.forms.specs.Forms.{nth, form_of}
+use Rattle.forms.specs.Fixed.{fixed_forms, fixed_lawful}
 use Rattle.forms.specs.Keys.{spelled}
 use Rattle.forms.specs.Lent.{key_of}
-use Rattle.forms.proofs.Members.{position_told}
+use Rattle.forms.proofs.Members.{nth_map, nth_map_past, position_found, position_more, position_none, form_few}
 use Rattle.forms.proofs.fixed.FixedForms.position.Goals as goal
-use Rattle.forms.proofs.fixed.FixedForms.position.Goals.{After-position}
 
--- the iterator answers the first position of the name
-found : (c : After-position) → c.position.result ≡ position_of (form_of fixed_forms c.args.form) (spelled (key_of c.args.key))
-found c =
-    let m = spelled (key_of c.args.key) in
-    position_from_yields_List (λ x. bytes_eq x.now m) _ _ c.position.result c.position.ensures.ran (YieldsList-from_slice _ c.iter.ensures.rest) (λ x b q k. search rules)
-    ∙ position_told (λ x. x.now) (form_of fixed_forms c.args.form) m c.names.result.now c.names.ensures
+pub loop-i-init : goal.loop-i-init
+loop-i-init c = refl
 
-pub returns-in_err-position : goal.returns-in_err-position
-returns-in_err-position c = c.from_residual.ensures ∙ sym c.in_err-position.was ∙ found (goal.at.returns-in_err-position c).After-position
+pub overflow_cast-result : goal.overflow_cast-result
+overflow_cast-result c =
+    let few = form_few fixed_forms c.args.form fixed_lawful in
+    let e = ap length c.names-names.ensures in
+    let m = length-map c.names-names.result.now (λ x. x.now) in
+    omega (arith, c.loop-i-test.true)
+
+pub returns-then-is_spelled : goal.returns-then-is_spelled
+returns-then-is_spelled c =
+    position_found (form_of fixed_forms c.args.form) (spelled (key_of c.args.key)) _ c.loop-i.i c.loop-i.invariant
+    (ap (λ l. nth l c.loop-i.i) (sym c.names-names.ensures) ∙ nth_map (λ x. x.now) _ c.names-names.result.now c.loop-i.i c.loop-i-test.true)
+    c.if-is_spelled.ensures
+
+pub loop-i-preserved : goal.loop-i-preserved
+loop-i-preserved c =
+    position_more (form_of fixed_forms c.args.form) (spelled (key_of c.args.key)) _ c.loop-i.i c.loop-i.invariant
+    (ap (λ l. nth l c.loop-i.i) (sym c.names-names.ensures) ∙ nth_map (λ x. x.now) _ c.names-names.result.now c.loop-i.i c.loop-i-test.true)
+    c.if-is_spelled.ensures
 
 pub returns : goal.returns
-returns c = sym c.in_ok-position.was ∙ found (goal.at.returns c).After-position
+returns c =
+    position_none (form_of fixed_forms c.args.form) (spelled (key_of c.args.key)) c.loop-i.i c.loop-i.invariant
+    (ap (λ l. nth l c.loop-i.i) (sym c.names-names.ensures) ∙ nth_map_past (λ x. x.now) c.names-names.result.now c.loop-i.i c.loop-i-test.false)
