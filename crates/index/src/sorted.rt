@@ -25,6 +25,28 @@ fn rises<V: Copy>(items: &[Keyed<V>]) -> bool
     true
 }
 
+// The value under the number `key`, if there is one.
+fn find<V: Copy>(items: &[Keyed<V>], key: u32) -> Option<V>
+    requires { Rising (keys items.now) }
+    ensures { result ≡ lookup items.now key }
+{
+    let mut low = 0;
+    let mut high = items.len();
+    while low < high {
+        let mid = low + (high - low) / 2;
+        let item = items[mid];
+        if item.key == key {
+            return Some(item.value);
+        }
+        if item.key < key {
+            low = mid + 1;
+        } else {
+            high = mid;
+        }
+    }
+    None
+}
+
 impl<V: Copy> Index<V> {
     // The items, if their numbers rise.
     pub fn new(items: Vec<Keyed<V>>) -> Option<Index<V>>
@@ -48,9 +70,6 @@ impl<V: Copy> Index<V> {
     pub fn get(&self, key: u32) -> Option<V>
         ensures { result ≡ lookup self.now.items.items key }
     {
-        match self.items.binary_search_by_key(&key, |item| item.key) {
-            Ok(at) => Some(self.items[at].value),
-            Err(_) => None,
-        }
+        find(&self.items, key)
     }
 }
