@@ -106,6 +106,7 @@ fn tell_nodes<S: Sink>(
     ensures { (x : Both) → S.told sink.old x.0 x.1 → ToldNodes (S.told sink.new) parent x nesting (place_of start.entry) result }
 {
     let mut rest = start;
+    // the bytes are looked at in place: is_at_end would copy the place at each turn, at a cost that was measured
     while !rest.bytes.is_empty() {
         let fore = fore_at(rest, nesting)?;
         let handle = NodeHandle { number: rest.at };
