@@ -67,9 +67,8 @@ fn is_property_type(name: &[u8], part: &[u8]) -> bool
         .is_some_and(|front| is_property(front, part))
 }
 
-// Whether the name is what the key spells. It stands where it is called, since callers mostly know the kind of the key.
-#[inline(always)]
-pub(crate) fn is_spelled(key: Spelled, name: &[u8]) -> bool
+// Whether the name is what the key spells.
+pub fn spells(key: Spelled, name: &[u8]) -> bool
     ensures { result ≡ bytes_eq name.now (spelled (key_of key.entry)) }
 {
     match key {
@@ -83,11 +82,4 @@ pub(crate) fn is_spelled(key: Spelled, name: &[u8]) -> bool
         Spelled::AtPropertyType(part) => is_property_type(name, part),
         Spelled::Plain(part) => same(name, part),
     }
-}
-
-// The same, for other crates.
-pub fn spells(key: Spelled, name: &[u8]) -> bool
-    ensures { result ≡ bytes_eq name.now (spelled (key_of key.entry)) }
-{
-    is_spelled(key, name)
 }

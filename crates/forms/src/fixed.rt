@@ -5,7 +5,7 @@ ghost use Rattle.forms.specs.Keys.{spelled};
 ghost use Rattle.forms.specs.Lent.{key_of};
 ghost use Rattle.forms.specs.Fixed.{fixed_forms, fixed_lawful};
 
-use super::compare::is_spelled;
+use super::compare::spells;
 use super::interface::Forms;
 use super::key::Spelled;
 
@@ -48,7 +48,7 @@ impl FixedForms {
     {
         let names = names(form);
         for (i, name) in names.iter().enumerate() {
-            if is_spelled(key, name) {
+            if spells(key, name) {
                 return Some(i as u32);
             }
         }

@@ -4,13 +4,12 @@ ghost use Rattle.forms.specs.Forms.{form_of, has};
 ghost use Rattle.forms.specs.Keys.{spelled};
 ghost use Rattle.forms.specs.Lent.{key_of};
 
-use super::compare::is_spelled;
+use super::compare::spells;
 use super::interface::Forms;
 use super::key::Spelled;
 
 // The key is compared with each name of the form, and written nowhere. A number that no form has is a form without names; no form has more than
 // 65,535.
-#[inline(always)]
 pub fn has_key<F: Forms>(forms: &F, form: u32, key: Spelled) -> bool
     ensures { result ≡ has (form_of (F.Forms.meaning forms.now) form) (spelled (key_of key.entry)) }
 {
@@ -18,7 +17,7 @@ pub fn has_key<F: Forms>(forms: &F, form: u32, key: Spelled) -> bool
         let Some(name) = forms.name(form, position) else {
             return false;
         };
-        if is_spelled(key, name) {
+        if spells(key, name) {
             return true;
         }
     }

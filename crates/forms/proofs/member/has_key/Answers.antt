@@ -9,15 +9,15 @@ pub returns-in_default : goal.returns-in_default
 returns-in_default g c =
     has_none (form_of (g.F.Forms.meaning c.args.forms.now) c.args.form) (spelled (key_of c.args.key)) c.loop-position.position c.loop-position.invariant (sym c.in_default.ensures)
 
-pub returns-then-is_spelled : goal.returns-then-is_spelled
-returns-then-is_spelled g c =
+pub returns-then-spells : goal.returns-then-spells
+returns-then-spells g c =
     has_found (form_of (g.F.Forms.meaning c.args.forms.now) c.args.form) (spelled (key_of c.args.key)) c.in-Some.name.now c.loop-position.position c.loop-position.invariant
-    (sym c.in-Some.ensures) c.if-is_spelled.ensures
+    (sym c.in-Some.ensures) c.if-spells.ensures
 
 pub loop-position-preserved : goal.loop-position-preserved
 loop-position-preserved g c =
     has_more (form_of (g.F.Forms.meaning c.args.forms.now) c.args.form) (spelled (key_of c.args.key)) c.in-Some.name.now c.loop-position.position c.loop-position.invariant
-    (sym c.in-Some.ensures) c.if-is_spelled.ensures
+    (sym c.in-Some.ensures) c.if-spells.ensures
 
 pub returns : goal.returns
 returns g c =

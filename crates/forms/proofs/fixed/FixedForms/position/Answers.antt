@@ -17,17 +17,17 @@ overflow_cast-result c =
     let m = length-map c.names-names.result.now (λ x. x.now) in
     omega (arith, c.loop-i-test.true)
 
-pub returns-then-is_spelled : goal.returns-then-is_spelled
-returns-then-is_spelled c =
+pub returns-then-spells : goal.returns-then-spells
+returns-then-spells c =
     position_found (form_of fixed_forms c.args.form) (spelled (key_of c.args.key)) _ c.loop-i.i c.loop-i.invariant
     (ap (λ l. nth l c.loop-i.i) (sym c.names-names.ensures) ∙ nth_map (λ x. x.now) _ c.names-names.result.now c.loop-i.i c.loop-i-test.true)
-    c.if-is_spelled.ensures
+    c.if-spells.ensures
 
 pub loop-i-preserved : goal.loop-i-preserved
 loop-i-preserved c =
     position_more (form_of fixed_forms c.args.form) (spelled (key_of c.args.key)) _ c.loop-i.i c.loop-i.invariant
     (ap (λ l. nth l c.loop-i.i) (sym c.names-names.ensures) ∙ nth_map (λ x. x.now) _ c.names-names.result.now c.loop-i.i c.loop-i-test.true)
-    c.if-is_spelled.ensures
+    c.if-spells.ensures
 
 pub returns : goal.returns
 returns c =
