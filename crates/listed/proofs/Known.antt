@@ -1,7 +1,10 @@
 -- What is kept of a set is its forms. Assumes nothing.
-use Rattle.std.proofs.Common.{◌≡◌, ℕ, List, length, slice_get, Some, None, Option, option_map, vec_items, vec_len, refl, sym, ap, ◌∙◌, Bor}
+use Rattle.std.proofs.Common.{◌≡◌, ℕ, ◌+◌, ◌≤◌, min, List, [], ◌∷◌, length, Fits, w32, arith, slice_get, Some, None, Option, option_map, vec_items, vec_len, refl, sym, ap, ◌∙◌, Bor}
 use Rattle.std.specs.Slice.{IsItemAt}
 use Rattle.std.proofs.lemmas.Option.{slice_get_past, slice_get_read, slice_get-map}
+use Rattle.std.specs.List.{fold}
+use Rattle.records.proofs.Numbers.{bytes_from_are}
+use Rattle.form_format.proofs.Whole.{lawful_set}
 use Rattle.forms.specs.Forms.{form_or, name_at}
 use mathlib.Core.Logic.{∥∥₁_elim}
 use mathlib.Core.List.{is_set}
@@ -17,6 +20,23 @@ forms_known t = ∥∥₁_elim t.kept (is_set (is_set (is_set (Coded-set u8.code
 
 pub count_known : (t : ListedForms) → vec_len t.forms ≡ length (meant t)
 count_known t = t.forms.ok.0 ∙ sym (length-map (vec_items t.forms) form_lent) ∙ ap length (forms_known t)
+
+-- a count from k on, by one for each item, ends at k and their number, as far as a usize goes
+one_by_one : {A : Type 0} (k : ℕ) (xs : List A) → k + length xs ≤ 18446744073709551615 → fold (λ n x. min (n + 1) 18446744073709551615) k xs ≡ k + length xs
+one_by_one k [] h = omega arith
+one_by_one k (x ∷ xs) h = ap (λ n. fold (λ n x. min (n + 1) 18446744073709551615) n xs) (omega arith) ∙ one_by_one (k + 1) xs (omega arith) ∙ omega arith
+
+-- a count of the kept lists, by one for each, is the number of the forms
+pub fold_known : (t : ListedForms) (n : ℕ) → n ≡ fold (λ n x. min (n + 1) 18446744073709551615) 0 (vec_items t.forms) → n ≡ length (meant t)
+fold_known t n e =
+    let few = (lawful_set t.bytes.now (bytes_from_are t.bytes.now t.typed)).few in
+    let known = count_known t in
+    let kept = t.forms.ok.0 in
+    e ∙ one_by_one 0 (vec_items t.forms) (omega arith) ∙ omega arith
+
+-- the number of the forms has 32 bits
+pub fits_known : (t : ListedForms) (n : ℕ) → n ≡ length (meant t) → Fits w32 n
+fits_known t n e = let few = (lawful_set t.bytes.now (bytes_from_are t.bytes.now t.typed)).few in omega arith
 
 -- what is lent at i is what stands there
 pub lent_at : {X : Type 0} (xs : List X) (i : ℕ) (r : Option (Bor X)) → IsItemAt xs i r → option_map (λ x. x.now) r ≡ slice_get xs i

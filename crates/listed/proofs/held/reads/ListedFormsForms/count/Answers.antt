@@ -1,15 +1,10 @@
-use Rattle.std.proofs.Common.{◌∙◌, arith}
-use Rattle.records.proofs.Numbers.{bytes_from_are}
-use Rattle.form_format.proofs.Whole.{lawful_set}
-use Rattle.listed.proofs.Known.{count_known}
+use Rattle.std.proofs.Common.{rules}
+use Rattle.listed.proofs.Known.{count_known, fold_known, fits_known}
 use Rattle.listed.proofs.held.reads.ListedFormsForms.count.Goals as goal
 
-pub overflow_cast-result : goal.overflow_cast-result
-overflow_cast-result c =
-    let t = c.args.self.now in
-    let l = (lawful_set t.bytes.now (bytes_from_are t.bytes.now t.typed)).few in
-    let k = count_known t in
-    omega (arith, c.len.ensures)
-
+-- No step of the code is named: the number is proved where it is the lists' length, and where they are counted one by one.
 pub returns : goal.returns
-returns c = c.len.ensures ∙ count_known c.args.self.now
+returns c = let t = c.args.self.now in search (rules, count_known t, fold_known t)
+
+pub overflow_cast-result : goal.overflow_cast-result
+overflow_cast-result c = let t = c.args.self.now in search (rules, count_known t, fold_known t, fits_known t)
